@@ -1,0 +1,5 @@
+pub mod Choice
+pub mod Range
+pub mod Sum
+pub mod Digits
+pub mod Bits

@@ -1,0 +1,61 @@
+-- Laws of tests and lists over a range. The idea: a finite fact is one test that the checker computes, and `all-at` hands it out at each number.
+use mathlib.Core.Path.{_≡_, refl, sym, ap, _∙_}
+use mathlib.Core.Bool.{Bool, true, false, _&&_, _||_}
+use mathlib.Core.List.{List, [], _∷_}
+use Prim.Native.Nat.{ℕ, zero, suc, _+_, _≤_, _<_}
+use native.Mathlib.Nat.{add-zero, add-suc, suc-add, zero-add, ne-of-lt}
+use native.Mathlib.Omega.{arith}
+use lib.Dec.{T, eqb, ltb}
+use lib.ListN.{length, getD, set}
+use lib.Seq.{ext-getD, getD-set-same, getD-set-other}
+use borrow.Author.Tests.{eqb-true, eqb-false, eq-eqb}
+use Rattle.basics.specs.Range.{allBelow, anyBelow, listed}
+use Rattle.basics.proofs.Choice.{by-cases, from-T, to-T, and-left, and-right, or-none-left, or-none-right}
+
+-- a computed test at each number
+pub all-at : (n : ℕ) (test : ℕ → Bool) → T (allBelow n test) → (i : ℕ) → i < n → test i ≡ true
+unfolding allBelow
+all-at zero test t i h = absurd (omega arith)
+all-at (suc n) test t i h =
+    by-cases (eqb i n) (λ e. rw (eqb-true i n e) (and-left (test n) _ (from-T t)))
+    (λ e. all-at n test (to-T (and-right (test n) _ (from-T t))) i (omega (arith, eqb-false)))
+
+pub none-at : (n : ℕ) (test : ℕ → Bool) → anyBelow n test ≡ false → (i : ℕ) → i < n → test i ≡ false
+unfolding anyBelow
+none-at zero test e i h = absurd (omega arith)
+none-at (suc n) test e i h =
+    by-cases (eqb i n) (λ q. rw (eqb-true i n q) (or-none-left (test n) _ e))
+    (λ q. none-at n test (or-none-right (test n) _ e) i (omega (arith, eqb-false)))
+
+pub none-below : (n : ℕ) (test : ℕ → Bool) → ((i : ℕ) → i < n → test i ≡ false) → anyBelow n test ≡ false
+unfolding anyBelow
+none-below zero test h = refl
+none-below (suc n) test h = rw (h n (omega arith), none-below n test (λ i l. h i (omega arith)))
+
+-- ---- lists by a rule
+
+pub length-listed : {A : Type 0} (f : ℕ → A) (i n : ℕ) → length (listed f i n) ≡ n
+unfolding listed
+length-listed f i zero = refl
+length-listed f i (suc n) = ap suc (length-listed f (suc i) n)
+
+pub listed-from : {A : Type 0} (f : ℕ → A) (d : A) (i n k : ℕ) → k < n → getD (listed f i n) k d ≡ f (i + k)
+unfolding listed
+listed-from f d i zero k h = absurd (omega arith)
+listed-from f d i (suc n) zero h = ap f (sym (add-zero i))
+listed-from f d i (suc n) (suc k) h = listed-from f d (suc i) n k (omega arith) ∙ ap f (suc-add i k ∙ sym (add-suc i k))
+
+pub listed-at : {A : Type 0} (f : ℕ → A) (d : A) (n k : ℕ) → k < n → getD (listed f 0 n) k d ≡ f k
+listed-at f d n k h = listed-from f d 0 n k h ∙ ap f (zero-add k)
+
+-- a list whose entries follow the rule
+pub is-listed : (f : ℕ → ℕ) (n : ℕ) (xs : List ℕ) → length xs ≡ n → ((k : ℕ) → k < n → getD xs k 0 ≡ f k) → xs ≡ listed f 0 n
+is-listed f n xs e h =
+    ext-getD 0 xs (listed f 0 n) (e ∙ sym (length-listed f 0 n)) (λ k l. let m : k < n = rw e at l in h k m ∙ sym (listed-at f 0 n k m))
+
+-- one more entry stored: the first i + 1 follow the rule
+pub set-more : (f : ℕ → ℕ) (xs : List ℕ) (i a : ℕ) → i < length xs → a ≡ f i → ((j : ℕ) → j < i → getD xs j 0 ≡ f j)
+    → (j : ℕ) → j < suc i → getD (set xs i a) j 0 ≡ f j
+set-more f xs i a h e known j k =
+    by-cases (eqb j i) (λ q. rw (eqb-true j i q) (getD-set-same xs i a 0 h ∙ e))
+    (λ q. getD-set-other xs i j a 0 (eqb-false j i q) ∙ known j (omega (arith, eqb-false)))
