@@ -1,0 +1,145 @@
+-- Laws for code that lends a part of the cells. The idea: a word of the value past the last cell meets a blank that is not there, so it can be left out.
+use mathlib.Core.Path.{_≡_, refl, sym, ap, ap₂, _∙_}
+use mathlib.Core.Bool.{Bool, true, false}
+use mathlib.Core.List.{List, [], _∷_, _++_, append-nil, append-assoc}
+use Prim.Native.Nat.{ℕ, zero, suc, _+_, _-_, _≤_, _<_}
+use native.Mathlib.Nat.{add-zero, add-suc, suc-add, zero-add}
+use native.Mathlib.Numerals.{add-one}
+use native.Mathlib.Omega.{arith}
+use lib.Dec.{ltb}
+use lib.ListN.{length, getD, set, take, drop, length-take, length-drop, length-set, take-append-drop, List·getD-eq-default}
+use lib.Seq.{sets, sets-eq, getD-take, getD-drop, drop-drop, drop-length, drop-cons, take-suc, take-all, take-length, append-snoc, set-at, length-take-le}
+use borrow.Author.Tests.{ltb-true, ltb-false}
+use Rattle.basics.specs.Choice.{if_then_else_}
+use Rattle.basics.proofs.Choice.{by-cases, if-both}
+use Rattle.words.specs.declared.Programmed.{Programmed}
+use Rattle.words.specs.declared.Programmed.the-variants.{Done, Refused}
+use Rattle.words.specs.Programming.{refuses, programAnswer, stored, programCells}
+use Rattle.words.proofs.Parts.{sets-past}
+use Rattle.words.proofs.Programming.{answer-next, answer-stop, answer-same, blank-passes, by-answer, refused-lowest, stored-done, stored-refused}
+
+-- ---- the loop over a part: one word more is tested, one word more is stored
+
+pub tested-next : (ss vs : List ℕ) (i : ℕ) → i < length vs → refuses (getD ss i 0) (getD vs i 0) ≡ false
+    → programAnswer ss i (drop i vs) ≡ programAnswer ss (suc i) (drop (suc i) vs)
+tested-next ss vs i h e = rw (drop-cons vs i 0 h) (answer-next ss (drop (suc i) vs) i (getD vs i 0) e)
+
+pub tested-stop : (ss vs : List ℕ) (i : ℕ) → i < length vs → refuses (getD ss i 0) (getD vs i 0) ≡ true → programAnswer ss i (drop i vs) ≡ Refused i
+tested-stop ss vs i h e = rw (drop-cons vs i 0 h) (answer-stop ss (drop (suc i) vs) i (getD vs i 0) e)
+
+pub tested-end : (ss vs : List ℕ) → programAnswer ss (length vs) (drop (length vs) vs) ≡ Done
+unfolding programAnswer
+tested-end ss vs = rw (drop-length vs)
+
+pub store-next : (ss vs : List ℕ) (i : ℕ) → i < length ss → i < length vs → set (take i vs ++ drop i ss) i (getD vs i 0) ≡ take (i + 1) vs ++ drop (i + 1) ss
+store-next ss vs i a b =
+    rw (add-one i, take-suc vs i 0 b, append-snoc, drop-cons ss i 0 a)
+    (set-at (take i vs) (getD ss i 0) (drop (suc i) ss) (getD vs i 0) i (length-take-le i vs (omega arith)))
+
+pub store-end : (ss vs : List ℕ) → length ss ≡ length vs → take (length ss) vs ++ drop (length ss) ss ≡ vs
+store-end ss vs e = rw (drop-length ss, e, take-length vs) (append-nil vs)
+
+-- the whole part becomes the value
+pub sets-whole : (ss vs : List ℕ) → length ss ≡ length vs → sets ss 0 vs ≡ vs
+sets-whole ss vs e =
+    let l : 0 + length vs ≤ length ss = omega arith in
+    let z : 0 + length vs ≡ length ss = omega arith in
+    sets-eq vs ss 0 l ∙ rw (z, drop-length ss) (append-nil vs)
+
+-- ---- a value that reaches past the last cell
+
+past-done : (vs c : List ℕ) (at : ℕ) → length c ≤ at → programAnswer c at vs ≡ Done
+unfolding programAnswer
+past-done [] c at h = refl
+past-done (v ∷ vs) c at h =
+    answer-next c vs at v (rw (List·getD-eq-default c 0 {n = at} h) (blank-passes v)) ∙ past-done vs c (suc at) (omega arith)
+
+pub past-cells : (c vs : List ℕ) (at : ℕ) → length c ≤ at → (Done ≡ programAnswer c at vs) × (c ≡ programCells c at vs)
+past-cells c vs at h = (sym (past-done vs c at h), sym (stored-done c vs at (past-done vs c at h) ∙ sets-past vs c at h))
+
+front-answer : (xs ys c : List ℕ) (at : ℕ) → length c ≤ at + length xs → programAnswer c at (xs ++ ys) ≡ programAnswer c at xs
+unfolding programAnswer
+front-answer [] ys c at h = past-done ys c at (omega arith)
+front-answer (x ∷ xs) ys c at h = ap (λ (r : Programmed). if refuses (getD c at 0) x then Refused at else r) (front-answer xs ys c (suc at) (omega arith))
+
+front-sets : (xs ys c : List ℕ) (at : ℕ) → length c ≤ at + length xs → sets c at (xs ++ ys) ≡ sets c at xs
+front-sets [] ys c at h = sets-past ys c at (omega arith)
+front-sets (x ∷ xs) ys c at h = front-sets xs ys (set c at x) (suc at) (rw length-set (omega arith))
+
+-- ---- the part that is lent, against the whole array
+
+-- an answer counted from the part's start, counted over the array
+abbrev pub counted : ℕ → Programmed → Programmed
+counted at Done = Done
+counted at (Refused i) = Refused (at + i)
+
+counted-if : (b : Bool) (at : ℕ) (x y : Programmed) → counted at (if b then x else y) ≡ (if b then counted at x else counted at y)
+unfolding if_then_else_
+counted-if true at x y = refl
+counted-if false at x y = refl
+
+part-answer : (vs c p : List ℕ) (at i : ℕ) → ((j : ℕ) → i ≤ j → j < i + length vs → getD c (at + j) 0 ≡ getD p j 0)
+    → programAnswer c (at + i) vs ≡ counted at (programAnswer p i vs)
+unfolding programAnswer
+part-answer [] c p at i h = refl
+part-answer (v ∷ vs) c p at i h =
+    ap₂ (λ (x : ℕ) (r : Programmed). if refuses x v then Refused (at + i) else r) (h i (omega arith) (omega arith))
+    (ap (λ (n : ℕ). programAnswer c n vs) (sym (add-suc at i)) ∙ part-answer vs c p at (suc i) (λ j l u. h j (omega arith) (omega arith)))
+    ∙ sym (counted-if (refuses (getD p i 0) v) at (Refused i) (programAnswer p (suc i) vs))
+
+-- the n cells from `at` on are lent with the lowest n words of the value; n is short of the value only where the array ends
+module _ (c vs : List ℕ) (at n : ℕ) (inside : at + n ≤ length c) (some : n ≤ length vs) (all : n < length vs → length c ≤ at + n) where
+  length-lent : length (take n (drop at c)) ≡ n
+  length-lent = length-take-le n (drop at c) (simp length-drop (omega arith))
+
+  pub same-lengths : length (take n (drop at c)) ≡ length (take n vs)
+  same-lengths = length-lent ∙ sym (length-take-le n vs some)
+
+  -- leaving the words past the last cell out changes nothing
+  left-out {ℓ} : {X : Type ℓ} (f : List ℕ → X) → (length c ≤ at + length (take n vs) → f (take n vs ++ drop n vs) ≡ f (take n vs)) → f vs ≡ f (take n vs)
+  left-out f h =
+      by-cases (ltb n (length vs))
+      (λ t. let l : length c ≤ at + length (take n vs) = omega (arith, all (ltb-true _ _ t), length-take-le n vs some) in ap f (sym (take-append-drop n vs)) ∙ h l)
+      (λ t. ap f (sym (take-all n vs (ltb-false _ _ t))))
+
+  pub lent-answer : counted at (programAnswer (take n (drop at c)) 0 (take n vs)) ≡ programAnswer c at vs
+  lent-answer =
+      sym (part-answer (take n vs) c (take n (drop at c)) at 0 (λ j l u. sym (getD-take n (drop at c) j 0 (omega (arith, length-take-le n vs some)) ∙ getD-drop at c j 0)))
+      ∙ ap (λ (i : ℕ). programAnswer c i (take n vs)) (add-zero at)
+      ∙ sym (left-out (programAnswer c at) (front-answer (take n vs) (drop n vs) c at))
+
+  done-cells : programAnswer (take n (drop at c)) 0 (take n vs) ≡ Done
+      → take at c ++ (programCells (take n (drop at c)) 0 (take n vs) ++ drop n (drop at c)) ≡ programCells c at vs
+  done-cells e =
+      let d : programAnswer c at vs ≡ Done = sym lent-answer ∙ ap (counted at) e in
+      let l : at + length (take n vs) ≤ length c = omega (arith, length-take-le n vs some) in
+      ap (λ (x : List ℕ). take at c ++ (x ++ drop n (drop at c))) (stored-done (take n (drop at c)) (take n vs) 0 e ∙ sets-whole (take n (drop at c)) (take n vs) same-lengths)
+      ∙ ap (λ (x : List ℕ). take at c ++ (take n vs ++ x)) (drop-drop n at c ∙ ap (λ (k : ℕ). drop (at + k) c) (sym (length-take-le n vs some)))
+      ∙ sym (append-assoc (take at c) (take n vs) _)
+      ∙ sym (sets-eq (take n vs) c at l)
+      ∙ sym (left-out (sets c at) (front-sets (take n vs) (drop n vs) c at))
+      ∙ sym (stored-done c vs at d)
+
+  refused-cells : (i : ℕ) → programAnswer (take n (drop at c)) 0 (take n vs) ≡ Refused i
+      → take at c ++ (programCells (take n (drop at c)) 0 (take n vs) ++ drop n (drop at c)) ≡ programCells c at vs
+  refused-cells i e =
+      ap (λ (x : List ℕ). take at c ++ (x ++ drop n (drop at c))) (stored-refused (take n (drop at c)) (take n vs) 0 i e)
+      ∙ ap (λ (x : List ℕ). take at c ++ x) (take-append-drop n (drop at c))
+      ∙ take-append-drop at c
+      ∙ sym (stored-refused c vs at (at + i) (sym lent-answer ∙ ap (counted at) e))
+
+  -- what the array holds once the part is handed back
+  pub lent-cells : take at c ++ (programCells (take n (drop at c)) 0 (take n vs) ++ drop n (drop at c)) ≡ programCells c at vs
+  lent-cells = by-answer (programAnswer (take n (drop at c)) 0 (take n vs)) done-cells refused-cells
+
+  -- both, as code meets them: the part of k cells has been programmed and handed back
+  pub handed-back : (k : ℕ) → k ≡ n → {r : Programmed} {part : List ℕ}
+      → r ≡ programAnswer (take k (drop at c)) 0 (take n vs) → part ≡ programCells (take k (drop at c)) 0 (take n vs)
+      → (counted at r ≡ programAnswer c at vs) × (take at c ++ (part ++ drop k (drop at c)) ≡ programCells c at vs)
+  handed-back k e a b = rw (a, b, e) (lent-answer, lent-cells)
+
+  -- a refusing word lies within the part
+  pub refused-within : (k : ℕ) → k ≡ n → (i : ℕ) → programAnswer (take k (drop at c)) 0 (take n vs) ≡ Refused i → i < n
+  refused-within k e i a =
+      let l = refused-lowest (take n vs) (take k (drop at c)) 0 i a in
+      omega (arith, l .place, l .inside, length-take-le n vs some)

@@ -1,0 +1,79 @@
+-- Laws of parts of an array, and of what storing a value there leaves. The idea: `sets` goes word by word, so every law is an induction on the value.
+use mathlib.Core.Path.{_≡_, refl, sym, ap, ap₂, _∙_}
+use mathlib.Core.Bool.{true, false}
+use mathlib.Core.List.{List, [], _∷_, _++_}
+use Prim.Native.Nat.{ℕ, zero, suc, _+_, _-_, _≤_, _<_}
+use native.Mathlib.Omega.{arith}
+use lib.ListN.{length, getD, set, take, drop, length-set, drop-of-length-le, List·getD-eq-default}
+use lib.Seq.{sets, getD-set-same, getD-set-other, set-out, drop-cons, take-nil}
+use lib.Dec.{ltb}
+use borrow.Author.Tests.{ltb-true, ltb-false}
+use Rattle.basics.specs.Range.{listed}
+use Rattle.basics.proofs.Choice.{by-cases}
+use Rattle.basics.proofs.Range.{length-listed}
+use Rattle.words.specs.Words.{numberOf, partAt}
+
+pub length-part : (c : List ℕ) (at n : ℕ) → length (partAt c at n) ≡ n
+unfolding partAt
+length-part c at n = length-listed _ at n
+
+-- a part depends on its words alone
+pub part-same : (c d : List ℕ) (at n : ℕ) → ((j : ℕ) → at ≤ j → j < at + n → getD c j 0 ≡ getD d j 0) → partAt c at n ≡ partAt d at n
+unfolding partAt listed
+part-same c d at zero h = refl
+part-same c d at (suc n) h = ap₂ (λ (x : ℕ) (l : List ℕ). x ∷ l) (h at (omega arith) (omega arith)) (part-same c d (suc at) n (λ j l u. h j (omega arith) (omega arith)))
+
+-- a part inside the array is the slice that code takes
+pub part-slice : (c : List ℕ) (at n : ℕ) → at + n ≤ length c → partAt c at n ≡ take n (drop at c)
+unfolding partAt listed
+part-slice c at zero h = refl
+part-slice c at (suc n) h = rw (drop-cons c at 0 (omega arith), part-slice c (suc at) n (omega arith))
+
+zeros-past : (c : List ℕ) (at n : ℕ) → length c ≤ at → numberOf (partAt c at n) ≡ 0
+unfolding partAt listed numberOf
+zeros-past c at zero h = refl
+zeros-past c at (suc n) h = rw (List·getD-eq-default c 0 {n = at} h, zeros-past c (suc at) n (omega arith))
+
+number-none : (c : List ℕ) (at : ℕ) → numberOf (partAt c at 0) ≡ numberOf (take 0 (drop at c))
+unfolding partAt listed
+number-none c at = refl
+
+number-more : (c : List ℕ) (at n : ℕ) → at < length c → numberOf (partAt c (suc at) n) ≡ numberOf (take n (drop (suc at) c))
+    → numberOf (partAt c at (suc n)) ≡ numberOf (take (suc n) (drop at c))
+unfolding partAt listed numberOf
+number-more c at n h ih = rw (drop-cons c at 0 h, ih)
+
+number-past : (c : List ℕ) (at n : ℕ) → length c ≤ at → numberOf (take n (drop at c)) ≡ 0
+unfolding numberOf
+number-past c at n h = rw (drop-of-length-le c {i = at} h, take-nil)
+
+-- the zeros past the end add nothing to the number
+pub number-part : (c : List ℕ) (at n : ℕ) → numberOf (partAt c at n) ≡ numberOf (take n (drop at c))
+number-part c at zero = number-none c at
+number-part c at (suc n) = by-cases (ltb at (length c)) (inside (number-part c (suc at) n)) past
+  where
+    inside : numberOf (partAt c (suc at) n) ≡ numberOf (take n (drop (suc at) c)) → ltb at (length c) ≡ true
+        → numberOf (partAt c at (suc n)) ≡ numberOf (take (suc n) (drop at c))
+    inside ih t = number-more c at n (ltb-true _ _ t) ih
+
+    past : ltb at (length c) ≡ false → numberOf (partAt c at (suc n)) ≡ numberOf (take (suc n) (drop at c))
+    past t = zeros-past c at (suc n) (ltb-false _ _ t) ∙ sym (number-past c at (suc n) (ltb-false _ _ t))
+
+pub sets-elsewhere : (vs c : List ℕ) (at j : ℕ) → (at ≤ j → j < at + length vs → ⊥) → getD (sets c at vs) j 0 ≡ getD c j 0
+sets-elsewhere [] c at j h = refl
+sets-elsewhere (v ∷ vs) c at j h =
+    sets-elsewhere vs (set c at v) (suc at) j (λ l u. h (omega arith) (omega arith)) ∙ getD-set-other c at j v 0 (λ e. h (omega arith) (omega arith))
+
+pub part-sets : (vs c : List ℕ) (at : ℕ) → at + length vs ≤ length c → partAt (sets c at vs) at (length vs) ≡ vs
+unfolding partAt listed
+part-sets [] c at h = refl
+part-sets (v ∷ vs) c at h =
+    rw (
+      sets-elsewhere vs (set c at v) (suc at) at (λ l u. omega arith),
+      getD-set-same c at v 0 (omega arith),
+      part-sets vs (set c at v) (suc at) (rw length-set (omega arith)),
+    )
+
+pub sets-past : (vs c : List ℕ) (at : ℕ) → length c ≤ at → sets c at vs ≡ c
+sets-past [] c at h = refl
+sets-past (v ∷ vs) c at h = rw (set-out c at v h) (sets-past vs c (suc at) (omega arith))

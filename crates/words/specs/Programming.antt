@@ -1,0 +1,38 @@
+-- Programming (document 01): "A multi-word value is refused with 4 if any stored bit is 1 where the value has 0. Otherwise the words become
+-- the value. All words are tested before one changes."
+use Prim.Native.Nat.{ℕ, suc, _≤_, _<_}
+use mathlib.Core.Bool.{Bool, _&&_}
+use mathlib.Core.List.{List, [], _∷_}
+use lib.Dec.{eqb}
+use lib.ListN.{getD}
+use lib.Seq.{sets}
+use Rattle.basics.specs.Choice.{if_then_else_}
+use Rattle.basics.specs.Range.{anyBelow}
+use Rattle.basics.specs.Digits.{bit}
+use Rattle.words.specs.declared.Programmed.{Programmed}
+use Rattle.words.specs.declared.Programmed.the-variants.{Done, Refused}
+
+-- some bit of the 16 is 1 in a and 0 in b
+unfoldable pub losesBit : ℕ → ℕ → Bool
+losesBit a b = anyBelow 16 (λ i. eqb (bit a i) 1 && eqb (bit b i) 0)
+
+-- the rule of refusal, for one word
+unfoldable pub refuses : ℕ → ℕ → Bool
+refuses stored value = losesBit stored value
+
+-- all words of the value are tested, from the cell `at` on; the lowest that refuses is named
+unfoldable pub programAnswer : List ℕ → ℕ → List ℕ → Programmed
+programAnswer cells at [] = Done
+programAnswer cells at (v ∷ vs) = if refuses (getD cells at 0) v then Refused at else programAnswer cells (suc at) vs
+
+-- the words become the value, or none changes
+unfoldable pub stored : Programmed → List ℕ → ℕ → List ℕ → List ℕ
+stored Done cells at value = sets cells at value
+stored (Refused i) cells at value = cells
+
+unfoldable pub programCells : List ℕ → ℕ → List ℕ → List ℕ
+programCells cells at value = stored (programAnswer cells at value) cells at value
+
+-- every bit that is 1 in the cells c is 1 in the cells d
+pub record Kept (c d : List ℕ) : Type 0 where
+  pub bits : (j i : ℕ) → i < 16 → bit (getD c j 0) i ≤ bit (getD d j 0) i

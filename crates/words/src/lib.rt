@@ -1,0 +1,120 @@
+// Fuse words of 16 bits: the numbers they stand for, and programming.
+ghost use mathlib.Core.Path.{_≡_};
+ghost use Prim.Native.Nat.{_≤_, min};
+ghost use lib.ListN.{length, take};
+ghost use Rattle.words.specs.Words.{numberOf, wordsOf};
+ghost use Rattle.words.specs.Programming.{programAnswer, programCells};
+
+// What programming answers: done, or the index of the lowest cell that refused.
+pub enum Programmed {
+    Done,
+    Refused(usize),
+}
+
+// The four words of a number, the lowest first.
+pub fn split(x: u64) -> [u16; 4]
+    ensures { λ r. ⌜ r ≡ wordsOf 4 x ⌝ }
+{
+    let a = (x % 65536) as u16;
+    let b = (x / 65536 % 65536) as u16;
+    let c = (x / 65536 / 65536 % 65536) as u16;
+    let d = (x / 65536 / 65536 / 65536 % 65536) as u16;
+    [a, b, c, d]
+}
+
+fn wide(w: u16) -> u64
+    ensures { λ r. ⌜ r ≡ w ⌝ }
+{
+    w as u64
+}
+
+// The number that at most four words stand for, from the highest word down.
+fn join_few(words: &[u16]) -> u64
+    requires { ⌜ length (now words) ≤ 4 ⌝ }
+    ensures { λ r. ⌜ r ≡ numberOf (now (words .entry)) ⌝ }
+{
+    let mut i = words.len();
+    let mut x: u64 = 0;
+    while 0 < i {
+        i -= 1;
+        let w = wide(words[i]);
+        x = w + 65536 * x;
+    }
+    x
+}
+
+// The number that the lowest four words stand for, or all words where they are fewer.
+pub fn join(words: &[u16]) -> u64
+    ensures { λ r. ⌜ r ≡ numberOf (take 4 (now (words .entry))) ⌝ }
+{
+    if 4 <= words.len() {
+        join_few(&words[..4])
+    } else {
+        join_few(words)
+    }
+}
+
+// The lowest word of a part that refuses its word of the value.
+fn tested(part: &[u16], value: &[u16]) -> Programmed
+    requires { ⌜ length (now part) ≡ length (now value) ⌝ }
+    ensures { λ r. ⌜ r ≡ programAnswer (now (part .entry)) 0 (now (value .entry)) ⌝ }
+{
+    let mut i = 0;
+    while i < part.len() {
+        let v = value[i];
+        let joined = part[i] | v;
+        if joined != v {
+            return Programmed::Refused(i);
+        }
+        i += 1;
+    }
+    Programmed::Done
+}
+
+// The words of a part become the value.
+fn store(part: &mut [u16], value: &[u16])
+    requires { ⌜ length (now part) ≡ length (now value) ⌝ }
+    ensures { λ _. ⌜ now (part .exit) ≡ now (value .entry) ⌝ }
+{
+    let mut i = 0;
+    while i < part.len() {
+        part[i] = value[i];
+        i += 1;
+    }
+}
+
+// Programs a part with a value of as many words: all are tested before one changes.
+fn program_part(part: &mut [u16], value: &[u16]) -> Programmed
+    requires { ⌜ length (now part) ≡ length (now value) ⌝ }
+    ensures answer { λ r. ⌜ r ≡ programAnswer (now (part .entry)) 0 (now (value .entry)) ⌝ }
+    ensures words { λ _. ⌜ now (part .exit) ≡ programCells (now (part .entry)) 0 (now (value .entry)) ⌝ }
+{
+    let answer = tested(&part[..], value);
+    match answer {
+        Programmed::Done => store(part, value),
+        Programmed::Refused(_) => {}
+    }
+    answer
+}
+
+fn least(a: usize, b: usize) -> usize
+    ensures { λ r. ⌜ r ≡ min a b ⌝ }
+{
+    if a < b { a } else { b }
+}
+
+// Programs the cells from `at` on with a value. Words of the value that would lie past the last cell are not there.
+pub fn program(cells: &mut [u16], at: usize, value: &[u16]) -> Programmed
+    ensures answer { λ r. ⌜ r ≡ programAnswer (now (cells .entry)) at (now (value .entry)) ⌝ }
+    ensures words { λ _. ⌜ now (cells .exit) ≡ programCells (now (cells .entry)) at (now (value .entry)) ⌝ }
+{
+    if cells.len() <= at {
+        return Programmed::Done;
+    }
+    let n = least(cells.len() - at, value.len());
+    let end = at + n;
+    match program_part(&mut cells[at..end], &value[..n]) {
+        Programmed::Done => Programmed::Done,
+        Programmed::Refused(i) => Programmed::Refused(at + i),
+    }
+}
