@@ -1,5 +1,5 @@
 -- Laws of tests and lists over a range. The idea: a finite fact is one test that the checker computes, and `all-at` hands it out at each number.
-use mathlib.Core.Path.{_≡_, refl, sym, ap, _∙_}
+use mathlib.Core.Path.{_≡_, refl, sym, ap, ap₂, _∙_}
 use mathlib.Core.Bool.{Bool, true, false, _&&_, _||_}
 use mathlib.Core.List.{List, [], _∷_}
 use Prim.Native.Nat.{ℕ, zero, suc, _+_, _≤_, _<_}
@@ -47,6 +47,12 @@ listed-from f d i (suc n) (suc k) h = listed-from f d (suc i) n k (omega arith) 
 
 pub listed-at : {A : Type 0} (f : ℕ → A) (d : A) (n k : ℕ) → k < n → getD (listed f 0 n) k d ≡ f k
 listed-at f d n k h = listed-from f d 0 n k h ∙ ap f (zero-add k)
+
+-- a rule counted from a later number
+pub listed-shift : {A : Type 0} (f g : ℕ → A) (i k n : ℕ) → ((j : ℕ) → f (k + j) ≡ g j) → listed f (k + i) n ≡ listed g i n
+unfolding listed
+listed-shift f g i k zero h = refl
+listed-shift f g i k (suc n) h = ap₂ (λ x l. x ∷ l) (h i) (ap (λ (m : ℕ). listed f m n) (sym (add-suc k i)) ∙ listed-shift f g (suc i) k n h)
 
 -- a list whose entries follow the rule
 pub is-listed : (f : ℕ → ℕ) (n : ℕ) (xs : List ℕ) → length xs ≡ n → ((k : ℕ) → k < n → getD xs k 0 ≡ f k) → xs ≡ listed f 0 n

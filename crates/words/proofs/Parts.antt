@@ -3,9 +3,10 @@ use mathlib.Core.Path.{_≡_, refl, sym, ap, ap₂, _∙_}
 use mathlib.Core.Bool.{true, false}
 use mathlib.Core.List.{List, [], _∷_, _++_}
 use Prim.Native.Nat.{ℕ, zero, suc, _+_, _-_, _≤_, _<_}
+use native.Mathlib.Nat.{add-suc}
 use native.Mathlib.Omega.{arith}
-use lib.ListN.{length, getD, set, take, drop, length-set, drop-of-length-le, List·getD-eq-default}
-use lib.Seq.{sets, getD-set-same, getD-set-other, set-out, drop-cons, take-nil}
+use lib.ListN.{length, getD, set, take, drop, length-set, length-drop, drop-of-length-le, List·getD-eq-default}
+use lib.Seq.{sets, getD-drop, getD-set-same, getD-set-other, set-out, drop-cons, take-nil, take-all}
 use lib.Dec.{ltb}
 use borrow.Author.Tests.{ltb-true, ltb-false}
 use Rattle.basics.specs.Range.{listed}
@@ -29,7 +30,18 @@ unfolding partAt listed
 part-slice c at zero h = refl
 part-slice c at (suc n) h = rw (drop-cons c at 0 (omega arith), part-slice c (suc at) n (omega arith))
 
-zeros-past : (c : List ℕ) (at n : ℕ) → length c ≤ at → numberOf (partAt c at n) ≡ 0
+-- the slice `&cells[at..]` that code takes
+pub rest-slice : (c : List ℕ) (at : ℕ) → take (length c - at) (drop at c) ≡ drop at c
+rest-slice c at = take-all (length c - at) (drop at c) (simp length-drop (omega arith))
+
+-- a part counted from a later word
+pub part-drop : (c : List ℕ) (from at n : ℕ) → partAt (drop from c) at n ≡ partAt c (from + at) n
+unfolding partAt listed
+part-drop c from at zero = refl
+part-drop c from at (suc n) =
+    ap₂ (λ (x : ℕ) (l : List ℕ). x ∷ l) (getD-drop from c at 0) (part-drop c from (suc at) n ∙ ap (λ (i : ℕ). listed (λ j. getD c j 0) i n) (add-suc from at))
+
+pub zeros-past : (c : List ℕ) (at n : ℕ) → length c ≤ at → numberOf (partAt c at n) ≡ 0
 unfolding partAt listed numberOf
 zeros-past c at zero h = refl
 zeros-past c at (suc n) h = rw (List·getD-eq-default c 0 {n = at} h, zeros-past c (suc at) n (omega arith))

@@ -11,7 +11,7 @@ use lib.ListN.{length, getD, set}
 use lib.Seq.{sets, length-sets, getD-set-same, getD-set-other, set-out}
 use borrow.Author.Tests.{eqb-true, eqb-false, ne-eqb, ltb-true, ltb-false}
 use Rattle.basics.specs.Choice.{if_then_else_}
-use Rattle.basics.specs.Range.{anyBelow}
+use Rattle.basics.specs.Range.{anyBelow, listed}
 use Rattle.basics.specs.Digits.{bit}
 use Rattle.basics.proofs.Choice.{by-cases, not-passed, true-not-false, if-true, if-false, if-both}
 use Rattle.basics.proofs.Range.{none-at, none-below}
@@ -47,14 +47,24 @@ bits-kept a b h = none-below 16 _ one
 pub loses-none : (a : ℕ) → losesBit a a ≡ false
 loses-none a = bits-kept a a (λ i h. le-refl _)
 
--- the rule as code tests it: `stored | value == value`
-pub or-passes : (s v : ℕ) → bitOr s v ≡ v → refuses s v ≡ false
+-- as code tests it: `a | b == b`
+pub or-keeps : (a b : ℕ) → bitOr a b ≡ b → losesBit a b ≡ false
+or-keeps a b e = bits-kept a b (λ i h. omega (arith, bit-or a b i, ap (λ (x : ℕ). bit x i) e))
+
+pub keeps-or : (a b : ℕ) → a < 65536 → losesBit a b ≡ false → bitOr a b ≡ b
+keeps-or a b l e = or-covered 16 a b l (λ i h. keeps-bit a b i e h)
+
+-- a word that loses no bit is not refused
+pub kept-passes : (s v : ℕ) → losesBit s v ≡ false → refuses s v ≡ false
 unfolding refuses
-or-passes s v e = bits-kept s v (λ i h. omega (arith, bit-or s v i, ap (λ (x : ℕ). bit x i) e))
+kept-passes s v e = e
+
+pub or-passes : (s v : ℕ) → bitOr s v ≡ v → refuses s v ≡ false
+or-passes s v e = kept-passes s v (or-keeps s v e)
 
 pub passes-or : (s v : ℕ) → s < 65536 → refuses s v ≡ false → bitOr s v ≡ v
 unfolding refuses
-passes-or s v l e = or-covered 16 s v l (λ i h. keeps-bit s v i e h)
+passes-or s v l e = keeps-or s v l e
 
 pub or-refuses : (s v : ℕ) → s < 65536 → (bitOr s v ≡ v → ⊥) → refuses s v ≡ true
 or-refuses s v l h = by-cases (refuses s v) (λ e. e) (λ e. absurd (h (passes-or s v l e)))
@@ -80,6 +90,13 @@ answer-same [] c d at h = refl
 answer-same (v ∷ vs) c d at h =
     ap₂ (λ (x : ℕ) (r : Programmed). if refuses x v then Refused at else r) (h at (omega arith) (omega arith))
     (answer-same vs c d (suc at) (λ j l u. h j (omega arith) (omega arith)))
+
+-- where no word of the part loses a bit, the value is taken
+pub covered-done : (vs c : List ℕ) (at : ℕ) → ((i : ℕ) → i < length vs → losesBit (getD (partAt c at (length vs)) i 0) (getD vs i 0) ≡ false)
+    → programAnswer c at vs ≡ Done
+unfolding programAnswer partAt listed
+covered-done [] c at h = refl
+covered-done (v ∷ vs) c at h = answer-next c vs at v (kept-passes _ v (h 0 (omega arith))) ∙ covered-done vs c (suc at) (λ i l. h (suc i) (omega arith))
 
 -- the refusing cell lies in the part and refuses its word; each cell below it took its word
 pub record Lowest (c : List ℕ) (at : ℕ) (vs : List ℕ) (i : ℕ) : Type 0 where

@@ -1,0 +1,5 @@
+pub mod Turns
+pub mod Boxes
+pub mod Permutation
+pub mod KeyRegister
+pub mod Inverse

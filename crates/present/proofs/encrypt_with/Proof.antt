@@ -1,0 +1,84 @@
+-- The loop's invariant: under any key with these round keys, the state is the one after i rounds.
+use denote.Ref.{now}
+use mathlib.Core.Path.{_≡_, refl, sym, ap, ap₂, _∙_}
+use Prim.Native.Nat.{ℕ, _-_, _≤_}
+use native.Mathlib.Numerals.{add-one}
+use native.Mathlib.Omega.{arith}
+use lib.Bits.{bitXor}
+use lib.Dec.{lit≤, lit<}
+use Rattle.basics.specs.Range.{allBelow, listed}
+use Rattle.present.specs.Present.{sBox, substitute, permute, roundKey, keyAfter, stateAfter, encryptBlock}
+use Rattle.present.proofs.Boxes.{substitute-held}
+use Rattle.present.proofs.KeyRegister.{key-at}
+use Rattle.present.proofs.encrypt_with.Statement.{statement}
+use Rattle.present.proofs.encrypt_with.Tie as tie
+
+abbrev Inv-loop : tie.InvT-loop
+Inv-loop keys block state₀ i₀ state i =
+    (i ≤ 31) × ((key : ℕ) → keys ≡ listed (λ j. roundKey (keyAfter key j)) 0 32 → state ≡ stateAfter key block i)
+
+abbrev μ-loop : tie.MeasureT-loop
+μ-loop keys block state₀ i₀ state i = 31 - i
+
+loop-holds : tie.Need-loop-holds Inv-loop μ-loop
+unfolding stateAfter
+loop-holds c = (lit≤ tt, λ key e. refl)
+
+mul-substituted : tie.Need-mul-substituted Inv-loop μ-loop
+mul-substituted c = omega arith
+
+element-copy-out-substituted : tie.Need-element-copy-out-substituted Inv-loop μ-loop
+element-copy-out-substituted c = omega arith
+
+substituted-requires : tie.Need-substituted-requires Inv-loop μ-loop
+substituted-requires c κs = tt
+
+permuted-requires : tie.Need-permuted-requires Inv-loop μ-loop
+permuted-requires c κs = tt
+
+add-i : tie.Need-add-i Inv-loop μ-loop
+add-i c = omega arith
+
+loop-less : tie.Need-loop-less Inv-loop μ-loop
+loop-less c = omega arith
+
+loop-again : tie.Need-loop-again Inv-loop μ-loop
+unfolding allBelow sBox stateAfter
+loop-again c =
+    let s = c .before .before .before .before in
+    let a = s .before .args in
+    let i : ℕ = s .loop .i in (
+      omega arith,
+      λ key e. c .permuted .ensures
+          ∙ ap permute (c .before .substituted .ensures ∙ substitute-held _ sBox tt _)
+          ∙ ap₂ (λ (x k : ℕ). permute (substitute sBox (bitXor x k))) (s .loop .inv .1 key e) (key-at (now (a .keys)) key i e (omega arith))
+          ∙ ap (stateAfter key (a .block)) (sym (add-one i)),
+    )
+
+element-copy-out-result : tie.Need-element-copy-out-result Inv-loop μ-loop
+element-copy-out-result c = omega arith
+
+returns : tie.Need-returns Inv-loop μ-loop
+unfolding encryptBlock
+returns c =
+    let s = c .before .before in
+    let a = s .before .args in
+    let last : s .loop .i ≡ 31 = omega arith in
+    λ key e. ap₂ bitXor (s .loop .inv .1 key e ∙ ap (stateAfter key (a .block)) last) (key-at (now (a .keys)) key 31 e (lit< tt))
+
+pub encrypt-with-spec : {M : Type 1} → statement M
+encrypt-with-spec =
+    tie.close
+    (tie.spec
+    Inv-loop
+    μ-loop
+    loop-holds
+    mul-substituted
+    element-copy-out-substituted
+    substituted-requires
+    permuted-requires
+    add-i
+    loop-less
+    loop-again
+    element-copy-out-result
+    returns)

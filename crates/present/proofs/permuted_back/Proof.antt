@@ -1,0 +1,76 @@
+-- The loop's invariant: the bits below i have come back from their places.
+use mathlib.Core.Path.{_≡_, refl, ap, _∙_}
+use Prim.Native.Nat.{ℕ, _-_, _≤_}
+use native.Mathlib.Omega.{arith}
+use lib.Dec.{lit≤, lit<}
+use Rattle.basics.specs.Range.{sum}
+use Rattle.basics.specs.Digits.{bit, number}
+use Rattle.basics.proofs.Digits.{digit-lt}
+use Rattle.present.specs.Present.{place, permuteBack}
+use Rattle.present.proofs.Turns.{added, part-lt, shifted}
+use Rattle.present.proofs.Permutation.{permuteBack-lt}
+use Rattle.present.proofs.permuted_back.Statement.{statement}
+use Rattle.present.proofs.permuted_back.Tie as tie
+
+abbrev fetched : ℕ → ℕ → ℕ
+fetched x i = bit x (place i)
+
+abbrev Inv-loop : tie.InvT-loop
+Inv-loop x out₀ i₀ out i = (i ≤ 64) × (out ≡ number 2 i (fetched x))
+
+abbrev μ-loop : tie.MeasureT-loop
+μ-loop x out₀ i₀ out i = 64 - i
+
+loop-holds : tie.Need-loop-holds Inv-loop μ-loop
+unfolding sum
+loop-holds c = (lit≤ tt, refl)
+
+place-of-requires : tie.Need-place-of-requires Inv-loop μ-loop
+place-of-requires c κs = omega arith
+
+bit-at-requires : tie.Need-bit-at-requires Inv-loop μ-loop
+bit-at-requires c κs = omega arith
+
+shl-out : tie.Need-shl-out Inv-loop μ-loop
+shl-out c = omega arith
+
+loop-again : tie.Need-loop-again Inv-loop μ-loop
+loop-again c =
+    let s = c .before .before .before in
+    let x : ℕ = s .before .args .x in
+    let i : ℕ = s .loop .i in
+    let at-place = c .bit-at .ensures ∙ ap (bit x) (c .before .place-of .ensures .0) in
+    let term = shifted 1 _ (fetched x i) i i at-place refl (digit-lt 2 (lit< tt) x (place i)) (omega arith) in
+    (omega arith, added _ i (s .loop .out) _ (s .loop .inv .1) term)
+
+add-out : tie.Need-add-out Inv-loop μ-loop
+unfolding permuteBack
+add-out c = record { fits = part-lt _ 64 _ _ (loop-again c .1) (loop-again c .0) (permuteBack-lt (c .before .before .before .before .args .x)) }
+
+add-i : tie.Need-add-i Inv-loop μ-loop
+add-i c = omega arith
+
+loop-less : tie.Need-loop-less Inv-loop μ-loop
+loop-less c = omega arith
+
+returns : tie.Need-returns Inv-loop μ-loop
+unfolding permuteBack
+returns c =
+    let e : c .before .loop .i ≡ 64 = omega arith in
+    c .before .loop .inv .1 ∙ ap (λ (n : ℕ). number 2 n (fetched (c .before .before .args .x))) e
+
+pub permuted-back-spec : {M : Type 1} → statement M
+permuted-back-spec =
+    tie.close
+    (tie.spec
+    Inv-loop
+    μ-loop
+    loop-holds
+    place-of-requires
+    bit-at-requires
+    shl-out
+    add-out
+    add-i
+    loop-less
+    loop-again
+    returns)
