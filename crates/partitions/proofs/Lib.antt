@@ -1,0 +1,4 @@
+pub mod KindRights
+pub mod Map
+pub mod Granules
+pub mod Map1

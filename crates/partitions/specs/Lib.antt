@@ -1,0 +1,3 @@
+pub mod Map
+pub mod Map1
+pub mod Fitness
