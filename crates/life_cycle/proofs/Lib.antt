@@ -1,0 +1,6 @@
+pub mod Constants
+pub mod Encoding
+pub mod Table
+pub mod Covering
+pub mod Distinct
+pub mod Decoding

@@ -1,0 +1,94 @@
+-- The invariant: no state below s has these words, so the search from s on finds what the whole search does.
+use mathlib.Core.Path.{_≡_, refl, sym, ap, _∙_}
+use mathlib.Core.Bool.{true}
+use mathlib.Core.Option.{Option, some}
+use Prim.Native.Nat.{ℕ, _≤_, _-_}
+use native.Mathlib.Omega.{arith}
+use native.Mathlib.Numerals.{add-one}
+use borrow.Author.Needs.{needs}
+use lib.ListN.{length}
+use Rattle.life_cycle.specs.Words.{stateWords, sameWords, encodedBy, lifeCycleOf}
+use Rattle.life_cycle.proofs.Encoding.{state-length}
+use Rattle.life_cycle.proofs.Decoding.{searched-here, searched-next, searched-end, count-alone, both-found, no-state}
+use Rattle.life_cycle.proofs.decode_state.Statement.{statement}
+use Rattle.life_cycle.proofs.decode_state.Tie as tie
+
+abbrev Inv-loop : tie.InvT-loop
+Inv-loop constants state count s₀ s =
+    (s ≤ 21) × (encodedBy (stateWords constants) state 0 21 ≡ encodedBy (stateWords constants) state s (21 - s))
+
+abbrev μ-loop : tie.MeasureT-loop
+μ-loop constants state count s₀ s = 21 - s
+
+loop-holds : tie.Need-loop-holds Inv-loop μ-loop
+loop-holds c = (omega arith, refl)
+
+state-words-requires : tie.Need-state-words-requires Inv-loop μ-loop
+state-words-requires c κs = search needs
+
+slice-aggregate-same-words : tie.Need-slice-aggregate-same-words Inv-loop μ-loop
+slice-aggregate-same-words c = sym (ap length (c .before .state-words .ensures) ∙ state-length _ _)
+
+same-words-requires : tie.Need-same-words-requires Inv-loop μ-loop
+same-words-requires c κs = search needs
+
+-- what the comparison with state s tells
+module _ (t : tie.After-same-words Inv-loop μ-loop) where
+  abbrev loop : tie.At-loop Inv-loop μ-loop
+  loop = t .before .before .before .before
+
+  abbrev start : tie.Start Inv-loop μ-loop
+  start = loop .before .before .before
+
+  same : t .same-words .result ≡ sameWords (start .args .state .now) (stateWords (start .args .constants .now) (loop .loop .s))
+  same = t .same-words .ensures ∙ ap (sameWords (start .args .state .now)) (t .before .before .state-words .ensures)
+
+  found : t .same-words .result ≡ true → encodedBy (stateWords (start .args .constants .now)) (start .args .state .now) 0 21 ≡ some (loop .loop .s)
+  found e = loop .loop .inv .1 ∙ searched-here _ _ (loop .loop .s) 21 (omega arith) (sym same ∙ e)
+
+returns : tie.Need-returns Inv-loop μ-loop
+returns c =
+    let t = c .before .before in
+    let n = start t .args .count in
+    sym (ap (λ (o : Option ℕ). lifeCycleOf o (some n)) (found t (c .before .if1 .taken)) ∙ count-alone (loop t .loop .s) n (c .if2 .taken))
+
+returns-2 : tie.Need-returns-2 Inv-loop μ-loop
+returns-2 c =
+    let t = c .before .before in
+    let n = start t .args .count in
+    sym (ap (λ (o : Option ℕ). lifeCycleOf o (some n)) (found t (c .before .if1 .taken)) ∙ both-found (loop t .loop .s) n (c .if2 .left))
+
+add-s : tie.Need-add-s Inv-loop μ-loop
+add-s c = search needs
+
+loop-less : tie.Need-loop-less Inv-loop μ-loop
+loop-less c = search needs
+
+loop-again : tie.Need-loop-again Inv-loop μ-loop
+loop-again c =
+    let t = c .before in
+    let s = loop t .loop .s in
+    (omega arith, loop t .loop .inv .1 ∙ rw (add-one s) (searched-next _ _ s 21 (omega arith) (sym (same t) ∙ c .if1 .left)))
+
+returns-3 : tie.Need-returns-3 Inv-loop μ-loop
+returns-3 c =
+    let l = c .before in
+    let n = l .before .before .before .args .count in
+    sym (ap (λ (o : Option ℕ). lifeCycleOf o (some n)) (l .loop .inv .1 ∙ searched-end _ _ (l .loop .s) 21 (c .loop-test .left)) ∙ no-state _)
+
+pub decode-state-spec : {M : Type 1} → statement M
+decode-state-spec =
+    tie.close
+    (tie.spec
+    Inv-loop
+    μ-loop
+    loop-holds
+    state-words-requires
+    slice-aggregate-same-words
+    same-words-requires
+    returns
+    returns-2
+    add-s
+    loop-less
+    loop-again
+    returns-3)

@@ -1,0 +1,52 @@
+-- Choice by choice as the definition has it.
+use mathlib.Core.Path.{sym, _∙_}
+use borrow.Author.Needs.{needs}
+use borrow.Author.Tests.{eq-eqb, ne-eqb}
+use Rattle.basics.proofs.Choice.{if-true, if-false}
+use Rattle.life_cycle.specs.Words.{stateWord}
+use Rattle.life_cycle.proofs.state_word.Statement.{statement}
+use Rattle.life_cycle.proofs.state_word.Tie as tie
+
+returns : tie.Need-returns
+unfolding stateWord
+returns c = sym (if-true _ _ (eq-eqb _ 0 (c .if1 .taken)))
+
+has-b-requires : tie.Need-has-b-requires
+has-b-requires c κs = search needs
+
+add-word-at : tie.Need-add-word-at
+add-word-at c = search needs
+
+word-at-requires : tie.Need-word-at-requires
+word-at-requires c κs = search needs
+
+add-word-at-2 : tie.Need-add-word-at-2
+add-word-at-2 c = search needs
+
+word-at-requires-2 : tie.Need-word-at-requires-2
+word-at-requires-2 c κs = search needs
+
+returns-2 : tie.Need-returns-2
+unfolding stateWord
+returns-2 c =
+    let b = c .before .before in
+    c .word-at .ensures ∙ sym (if-false _ _ (ne-eqb _ 0 (b .before .if1 .left)) ∙ if-true _ _ (sym (b .has-b .ensures) ∙ c .before .if2 .taken))
+
+returns-3 : tie.Need-returns-3
+unfolding stateWord
+returns-3 c =
+    let b = c .before .before in
+    c .word-at2 .ensures ∙ sym (if-false _ _ (ne-eqb _ 0 (b .before .if1 .left)) ∙ if-false _ _ (sym (b .has-b .ensures) ∙ c .before .if2 .left))
+
+pub state-word-spec : {M : Type 1} → statement M
+state-word-spec =
+    tie.close
+    (tie.spec
+    returns
+    has-b-requires
+    add-word-at
+    word-at-requires
+    add-word-at-2
+    word-at-requires-2
+    returns-2
+    returns-3)

@@ -1,0 +1,28 @@
+-- An entry of the array, or the default past its end.
+use mathlib.Core.Path.{_≡_, refl, sym}
+use Prim.Native.Nat.{ℕ, _≤_}
+use native.Mathlib.Omega.{arith}
+use borrow.Author.Needs.{needs}
+use lib.ListN.{length, List·getD-eq-default}
+use Rattle.model.specs.Session.{sensedAt}
+use Rattle.model.proofs.Session.sensed_at.Statement.{statement}
+use Rattle.model.proofs.Session.sensed_at.Tie as tie
+
+mul-result : tie.Need-mul-result
+mul-result c = search needs
+
+element-copy-out-result : tie.Need-element-copy-out-result
+element-copy-out-result c = search needs
+
+returns : tie.Need-returns
+unfolding sensedAt
+returns c = refl
+
+returns-2 : tie.Need-returns-2
+unfolding sensedAt
+returns-2 c =
+    let l : length (c .before .args .t1 .sensed) ≡ 6 = search needs in
+    sym (List·getD-eq-default (c .before .args .t1 .sensed) 0 {n = c .before .args .number} (omega arith))
+
+pub sensed-at-spec : {M : Type 1} → statement M
+sensed-at-spec = tie.close (tie.spec mul-result element-copy-out-result returns returns-2)

@@ -1,0 +1,34 @@
+-- "An answer is a code and a 64-bit value. The value is 0 unless stated."
+use Prim.Native.Nat.{ℕ}
+use Rattle.model.specs.declared.Answer.{Answer}
+use Rattle.model.specs.declared.Answer.the-variants.{Done, Cleared, Denied, DigestFailed, NotReady, LifeCycleFailed, WrongLength, UnknownTarget, InvalidConstants, StrokesUsed, NotInTable, TokenNotLocked, TokenDiffers}
+
+abbrev pub codeOf : Answer → ℕ
+codeOf (Done value) = 0x00
+codeOf (Cleared cell) = 0x04
+codeOf Denied = 0x05
+codeOf (DigestFailed partition) = 0x06
+codeOf NotReady = 0x07
+codeOf (LifeCycleFailed value) = 0x07
+codeOf WrongLength = 0x10
+codeOf UnknownTarget = 0x11
+codeOf InvalidConstants = 0x12
+codeOf StrokesUsed = 0x20
+codeOf NotInTable = 0x21
+codeOf TokenNotLocked = 0x22
+codeOf TokenDiffers = 0x23
+
+abbrev pub valueOf : Answer → ℕ
+valueOf (Done value) = value
+valueOf (Cleared cell) = 0
+valueOf Denied = 0
+valueOf (DigestFailed partition) = partition
+valueOf NotReady = 0
+valueOf (LifeCycleFailed value) = value
+valueOf WrongLength = 0
+valueOf UnknownTarget = 0
+valueOf InvalidConstants = 0
+valueOf StrokesUsed = 0
+valueOf NotInTable = 0
+valueOf TokenNotLocked = 0
+valueOf TokenDiffers = 0

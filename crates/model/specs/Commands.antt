@@ -1,0 +1,171 @@
+-- The commands but power-up, each in the paper's order of refusals, over any primitives and map. What each may do is in the sentence above it.
+use Prim.Native.Nat.{ℕ, suc, _+_, _*_, _-_, _/_, _^_}
+use mathlib.Core.Bool.{Bool, true, false, not, _&&_, _||_}
+use mathlib.Core.List.{List, []}
+use lib.Dec.{eqb, leb, ltb}
+use Rattle.basics.specs.Choice.{if_then_else_}
+use Rattle.words.specs.Words.{numberOf, wordsOf, partAt}
+use Rattle.partitions.specs.declared.Kind.{Kind}
+use Rattle.partitions.specs.declared.Kind.the-variants as kind
+use Rattle.partitions.specs.declared.Partition.{Partition}
+use Rattle.partitions.specs.Map.{Map, rightsOf, numberAt, partition, partitionAt, limit, inDigest, firstWord, wordCount, numberOfKind}
+use Rattle.life_cycle.specs.declared.Token.{Token}
+use Rattle.life_cycle.specs.declared.Token.the-variants.{Nothing, RawUnlock, TestUnlock, TestExit, Rma}
+use Rattle.life_cycle.specs.declared.Entry.{Entry}
+use Rattle.life_cycle.specs.declared.Entry.the-variants.{Allowed, Forbidden}
+use Rattle.life_cycle.specs.Words.{counterWords, stateWords}
+use Rattle.life_cycle.specs.Transitions.{transition}
+use Rattle.model.specs.declared.Session.{Session}
+use Rattle.model.specs.declared.Answer.the-variants.{Done, Denied, NotReady, UnknownTarget, StrokesUsed, NotInTable, TokenNotLocked, TokenDiffers}
+use Rattle.model.specs.declared.Command.{Command}
+use Rattle.model.specs.declared.Command.the-variants.{Read, Write, FrontRead, Digest, ReadLock, Transition, PowerUp}
+use Rattle.model.specs.Session.{isReady, sensedLocked, readLocked}
+use Rattle.model.specs.Lent.{Lent, Machine, Primitives, keyOf, digestStart, digestFinal, rawToken}
+use Rattle.model.specs.Acts.{stay, lock, halt, die, Act, say, program, compare, refuse}
+
+-- the granule of an address in the cells or in the copy
+unfoldable pub granule : Partition → List ℕ → ℕ → ℕ
+granule p words a = numberOf (partAt words (firstWord p a) (wordCount p a))
+
+-- the digest's four words in the cells
+unfoldable pub storedDigest : Partition → List ℕ → ℕ
+storedDigest p cells = numberOf (partAt cells (p .digest / 2) 4)
+
+-- the data words, as stored
+unfoldable pub dataWords : Partition → List ℕ → List ℕ
+dataWords p cells = partAt cells (p .start / 2) (p .digest / 2 - p .start / 2)
+
+-- where a token is stored: the partition's kind, and the first word of 16 bytes counted from its start.
+-- "SECRET0 (TEST_UNLOCK, TEST_EXIT, 16 bytes each) .. SECRET2 (RMA token 16, ..)"
+unfoldable pub tokenKind : Token → Kind
+tokenKind Nothing = kind.Secret0
+tokenKind RawUnlock = kind.Secret0
+tokenKind TestUnlock = kind.Secret0
+tokenKind TestExit = kind.Secret0
+tokenKind Rma = kind.Secret2
+
+unfoldable pub tokenOffset : Token → ℕ
+tokenOffset Nothing = 0
+tokenOffset RawUnlock = 0
+tokenOffset TestUnlock = 0
+tokenOffset TestExit = 8
+tokenOffset Rma = 0
+
+module _ (prims : Primitives) (map : Map) where
+  -- "Secret data is scrambled, then programmed." "Secret data is unscrambled, a blank block too."
+  unfoldable pub scrambled : List ℕ → Partition → ℕ → ℕ
+  scrambled constants p x = if rightsOf (p .kind) .scrambled then prims .encrypt (keyOf constants (p .kind)) x else x
+
+  unfoldable pub unscrambled : List ℕ → Partition → ℕ → ℕ
+  unscrambled constants p x = if rightsOf (p .kind) .scrambled then prims .decrypt (keyOf constants (p .kind)) x else x
+
+  -- "Computes over the stored data words"
+  unfoldable pub computedDigest : List ℕ → Partition → List ℕ → ℕ
+  computedDigest constants p cells = prims .digest (digestStart constants) (digestFinal constants) (dataWords p cells)
+
+  -- where the life cycle's 24 counter words start; its 20 state words follow
+  unfoldable pub counterAt : ℕ
+  counterAt = partition map (numberOfKind map kind.LifeCycle) .start / 2
+
+  unfoldable pub stateAt : ℕ
+  stateAt = counterAt + 24
+
+  -- "The stored token is that in the sensed copy."
+  unfoldable pub tokenSame : Token → ℕ → List ℕ → Bool
+  tokenSame token given copy = eqb (numberOf (partAt copy (partition map (numberOfKind map (tokenKind token)) .start / 2 + tokenOffset token) 8)) given
+
+  module _ (m : Machine) where
+    abbrev session : Session
+    session = m .session
+
+    abbrev constants : List ℕ
+    constants = m .lent .constants
+
+    -- "5 if the address is 0x380 or more, in LIFE_CYCLE, in the digest of 2 to 5, or in a partition with a nonzero sensed digest."
+    unfoldable pub writeAct : ℕ → ℕ → Act
+    writeAct a value =
+        let p = partitionAt map a in
+        if leb (limit map) a then refuse Denied
+        else if not (rightsOf (p .kind) .direct) then refuse Denied
+        else if rightsOf (p .kind) .hardware && inDigest p a then refuse Denied
+        else if sensedLocked session (numberAt map a) then refuse Denied
+        else program (firstWord p a) (wordsOf (wordCount p a) (scrambled constants p value)) stay (say (Done 0) stay)
+
+    -- "5 if the address is 0x380 or more or in LIFE_CYCLE; for data, not digests, also if the partition is read-locked or is secret with a
+    -- nonzero sensed digest. Digests are always readable, plain. .. Reads look at cells"
+    unfoldable pub readAct : ℕ → Act
+    readAct a =
+        let p = partitionAt map a in
+        if leb (limit map) a then refuse Denied
+        else if not (rightsOf (p .kind) .direct) then refuse Denied
+        else if inDigest p a then say (Done (granule p (m .lent .cells) a)) stay
+        else if readLocked session (numberAt map a) then refuse Denied
+        else if rightsOf (p .kind) .scrambled && sensedLocked session (numberAt map a) then refuse Denied
+        else say (Done (unscrambled constants p (granule p (m .lent .cells) a))) stay
+
+    -- "HW_CFG data from the sensed copy; any other address 5."
+    unfoldable pub frontReadAct : ℕ → Act
+    frontReadAct a =
+        let p = partitionAt map a in
+        if leb (limit map) a then refuse Denied
+        else if not (rightsOf (p .kind) .front) then refuse Denied
+        else if inDigest p a then refuse Denied
+        else say (Done (granule p (m .lent .copy) a)) stay
+
+    -- "5 unless the address is exactly the start of 2, 3, 4 or 5 and its sensed digest is zero. Computes over the stored data words, programs
+    -- the digest location, answers the digest."
+    unfoldable pub digestAct : ℕ → Act
+    digestAct a =
+        let p = partitionAt map a in
+        if leb (limit map) a then refuse Denied
+        else if not (rightsOf (p .kind) .hardware) then refuse Denied
+        else if not (eqb a (p .start)) then refuse Denied
+        else if sensedLocked session (numberAt map a) then refuse Denied
+        else program (p .digest / 2) (wordsOf 4 (computedDigest constants p (m .lent .cells))) stay (say (Done (computedDigest constants p (m .lent .cells))) stay)
+
+    -- "5 unless 0 or 1. Lasts until power-up; locking again answers 0."
+    unfoldable pub readLockAct : ℕ → Act
+    readLockAct number = if not (rightsOf (partition map number .kind) .lockable) then refuse Denied else say (Done 0) (lock number)
+
+    -- "then the 20 state words are programmed"
+    unfoldable pub moveAct : ℕ → Act
+    moveAct target = program stateAt (stateWords constants target) die (say (Done 0) halt)
+
+    unfoldable pub lockedTokenAct : Token → ℕ → ℕ → Act
+    lockedTokenAct token target given =
+        if not (sensedLocked session (numberOfKind map (tokenKind token))) then say TokenNotLocked halt
+        else compare (tokenSame token given) (moveAct target) (say TokenDiffers halt)
+
+    -- "With none, the token is ignored and 0x22, 0x23 aren't given; the RAW token needs no lock."
+    unfoldable pub tokenAct : Token → ℕ → ℕ → Act
+    tokenAct Nothing target given = moveAct target
+    tokenAct RawUnlock target given = compare (λ copy. eqb (rawToken constants) given) (moveAct target) (say TokenDiffers halt)
+    tokenAct TestUnlock target given = lockedTokenAct TestUnlock target given
+    tokenAct TestExit target given = lockedTokenAct TestExit target given
+    tokenAct Rma target given = lockedTokenAct Rma target given
+
+    unfoldable pub entryAct : Entry → ℕ → ℕ → Act
+    entryAct Forbidden target given = say NotInTable halt
+    entryAct (Allowed token) target given = tokenAct token target given
+
+    -- "Order: 0x20 with no cell changed; then the 24 counter words of one stroke more than the record's count are programmed; then 0x21; 0x22;
+    -- 0x23; then the 20 state words". Before them, 7 for a record's state above 20 or count above 24, and "0x11 changes nothing".
+    unfoldable pub transitionAct : ℕ → ℕ → Act
+    transitionAct target given =
+        if not (leb (session .state) 20 && leb (session .count) 24) then refuse NotReady
+        else if not (leb target 20) then refuse UnknownTarget
+        else if not (ltb (session .count) 24) then say StrokesUsed halt
+        else program counterAt (counterWords constants (suc (session .count))) die (entryAct (transition (session .state) target) target given)
+
+    unfoldable pub commandAct : Command → Act
+    commandAct (Read a) = readAct a
+    commandAct (Write a value) = writeAct a value
+    commandAct (FrontRead a) = frontReadAct a
+    commandAct (Digest a) = digestAct a
+    commandAct (ReadLock number) = readLockAct number
+    commandAct (Transition target high low) = transitionAct target (high * 2 ^ 64 + low)
+    commandAct PowerUp = refuse NotReady
+
+    -- "phase is not Ready (except at power-up)"
+    unfoldable pub readyAct : Command → Act
+    readyAct x = if not (isReady (session .phase)) then refuse NotReady else commandAct x

@@ -1,0 +1,7 @@
+pub mod Session
+pub mod Answers
+pub mod Lent
+pub mod Acts
+pub mod Commands
+pub mod PowerUp
+pub mod Step

@@ -1,0 +1,94 @@
+-- Power-up, "from any phase".
+use Prim.Native.Nat.{ℕ, suc, _+_, _*_, _-_, _/_}
+use mathlib.Core.Bool.{Bool, true, false, not, _&&_, _||_}
+use mathlib.Core.List.{List, [], _∷_}
+use mathlib.Core.Option.{Option, none, some}
+use lib.Dec.{eqb}
+use lib.ListN.{getD}
+use Rattle.basics.specs.Choice.{if_then_else_}
+use Rattle.basics.specs.Range.{listed}
+use Rattle.words.specs.Words.{numberOf, wordsOf, partAt}
+use Rattle.partitions.specs.declared.Partition.{Partition}
+use Rattle.partitions.specs.Map.{Map, rightsOf, partitionAt, limit, inDigest, firstWord}
+use Rattle.life_cycle.specs.declared.LifeCycle.{LifeCycle}
+use Rattle.life_cycle.specs.declared.LifeCycle.the-variants.{Valid, Invalid}
+use Rattle.life_cycle.specs.Words.{decoded}
+use Rattle.model.specs.declared.Reason.{Reason}
+use Rattle.model.specs.declared.Reason.the-variants as reason
+use Rattle.model.specs.declared.Phase.{Phase}
+use Rattle.model.specs.declared.Phase.the-variants.{Ready, Dead}
+use Rattle.model.specs.declared.Session.{Session}
+use Rattle.model.specs.declared.Answer.{Answer}
+use Rattle.model.specs.declared.Answer.the-variants.{Done, DigestFailed, LifeCycleFailed}
+use Rattle.model.specs.Lent.{Lent, Machine, Primitives, keyOf}
+use Rattle.model.specs.Commands.{storedDigest, computedDigest, unscrambled, counterAt, stateAt}
+
+-- one entry for each partition that has a digest, and one for each that has a read lock
+unfoldable pub digests : (Partition → ℕ) → Map → List ℕ
+digests f [] = []
+digests f (p ∷ ps) = if rightsOf (p .kind) .direct then f p ∷ digests f ps else digests f ps
+
+unfoldable pub noLocks : Map → List Bool
+noLocks [] = []
+noLocks (p ∷ ps) = if rightsOf (p .kind) .lockable then false ∷ noLocks ps else noLocks ps
+
+-- how a power-up ends: dead, with a reason and an answer, or ready with a state and a count
+pub data Waking : Type 0 where
+  fails : Reason → Answer → Waking
+  wakes : ℕ → ℕ → Waking
+
+-- "state and count are decoded; invalid or SCRAP gives 7 and Dead 7 .. value for SCRAP as below, for invalid 0xFFFF"
+unfoldable pub lifeCycleWaking : LifeCycle → Waking
+lifeCycleWaking Invalid = fails reason.LifeCycleFailed (LifeCycleFailed 0xFFFF)
+lifeCycleWaking (Valid state count) =
+    if eqb state 20 then fails reason.LifeCycleFailed (LifeCycleFailed (256 * count + state)) else wakes state count
+
+-- "the first that differs gives 6 and Dead 6. Then .."
+unfoldable pub wakingOf : Option ℕ → LifeCycle → Waking
+wakingOf (some number) life = fails reason.DigestFailed (DigestFailed number)
+wakingOf none life = lifeCycleWaking life
+
+module _ (prims : Primitives) (map : Map) where
+  -- "a nonzero stored digest must equal the one recomputed"
+  unfoldable pub digestHolds : List ℕ → List ℕ → Partition → Bool
+  digestHolds constants cells p =
+      not (rightsOf (p .kind) .hardware) || eqb (storedDigest p cells) 0 || eqb (storedDigest p cells) (computedDigest prims map constants p cells)
+
+  -- An integrity verdict: "the first partition that fails a power-up's digest check, or none", the partitions numbered from n on.
+  unfoldable pub firstFailing : List ℕ → List ℕ → ℕ → Map → Option ℕ
+  firstFailing constants cells n [] = none
+  firstFailing constants cells n (p ∷ ps) = if digestHolds constants cells p then firstFailing constants cells (suc n) ps else some n
+
+  unfoldable pub verdictOf : Lent → Option ℕ
+  verdictOf l = firstFailing (l .constants) (l .cells) 0 map
+
+  unfoldable pub lifeCycleIn : Lent → LifeCycle
+  lifeCycleIn l = decoded (l .constants) (partAt (l .cells) (counterAt prims map) 24) (partAt (l .cells) (stateAt prims map) 20)
+
+  -- "the copy holds 2 to 6, secret data unscrambled, and zero for 0 and 1" (the partitions with read locks), word by word
+  unfoldable pub copyWord : List ℕ → List ℕ → ℕ → ℕ
+  copyWord constants cells j =
+      let a = 2 * j in
+      let p = partitionAt map a in
+      if rightsOf (p .kind) .lockable then 0
+      else if rightsOf (p .kind) .scrambled && not (inDigest p a)
+      then getD (wordsOf 4 (unscrambled prims map constants p (numberOf (partAt cells (firstWord p a) 4)))) (j - firstWord p a) 0
+      else getD cells j 0
+
+  -- "A 6 or 7 here sets the copy to all zero, and sensed digests, state and count to zero". "Success: Ready; sensed digests of 0 to 5 are the
+  -- stored ones; .. value 256 times count plus state." Both clear the read locks.
+  unfoldable pub wokenCopy : Waking → Lent → List ℕ
+  wokenCopy (fails reason answer) l = listed (λ j. 0) 0 (limit map / 2)
+  wokenCopy (wakes state count) l = listed (copyWord (l .constants) (l .cells)) 0 (limit map / 2)
+
+  unfoldable pub wokenSession : Waking → Lent → Session
+  wokenSession (fails reason answer) l = record { phase = Dead reason; sensed = digests (λ p. 0) map; locks = noLocks map; state = 0; count = 0 }
+  wokenSession (wakes state count) l =
+      record { phase = Ready; sensed = digests (λ p. storedDigest p (l .cells)) map; locks = noLocks map; state = state; count = count }
+
+  unfoldable pub wokenAnswer : Waking → Answer
+  wokenAnswer (fails reason answer) = answer
+  wokenAnswer (wakes state count) = Done (256 * count + state)
+
+  unfoldable pub waking : Lent → Waking
+  waking l = wakingOf (verdictOf l) (lifeCycleIn l)

@@ -1,0 +1,132 @@
+// The types of the model: the session record, answers and commands. Their meaning is in `specs/`.
+ghost use mathlib.Core.Path.{_≡_};
+ghost use Rattle.model.specs.Session.{freshSession, sensedAt, readLocked};
+ghost use Rattle.model.specs.Answers.{codeOf, valueOf};
+
+// Why a phase is dead: a programmed bit would have been cleared (4), a digest check failed (6), the life cycle is not usable (7).
+pub enum Reason {
+    BitCleared,
+    DigestFailed,
+    LifeCycleFailed,
+}
+
+pub enum Phase {
+    Off,
+    Ready,
+    Inert,
+    Dead(Reason),
+}
+
+// The session record: phase, sensed digests, read locks, life cycle state and stroke count.
+pub struct Session {
+    pub phase: Phase,
+    pub sensed: [u64; 6],
+    pub locks: [bool; 2],
+    pub state: u8,
+    pub count: u8,
+}
+
+// What a command answers. `Cleared` names the lowest cell that refused, `DigestFailed` the partition.
+pub enum Answer {
+    Done(u64),
+    Cleared(usize),
+    Denied,
+    DigestFailed(usize),
+    NotReady,
+    LifeCycleFailed(u64),
+    WrongLength,
+    UnknownTarget,
+    InvalidConstants,
+    StrokesUsed,
+    NotInTable,
+    TokenNotLocked,
+    TokenDiffers,
+}
+
+// A command: addresses are byte addresses, a token comes as its high and its low 64 bits.
+pub enum Command {
+    Read(u32),
+    Write(u32, u64),
+    FrontRead(u32),
+    Digest(u32),
+    ReadLock(u8),
+    Transition(u8, u64, u64),
+    PowerUp,
+}
+
+// What a command gives back beside what is lent.
+pub struct Outcome {
+    pub session: Session,
+    pub answer: Answer,
+}
+
+impl Session {
+    // A fresh record: off, all else zero.
+    pub fn fresh() -> Session
+        ensures { λ r. ⌜ r ≡ freshSession ⌝ }
+    {
+        Session {
+            phase: Phase::Off,
+            sensed: [0, 0, 0, 0, 0, 0],
+            locks: [false, false],
+            state: 0,
+            count: 0,
+        }
+    }
+
+    // The sensed digest of a partition.
+    pub fn sensed_at(self, number: usize) -> u64
+        ensures { λ r. ⌜ r ≡ sensedAt self number ⌝ }
+    {
+        if number < 6 { self.sensed[number] } else { 0 }
+    }
+
+    // Whether a partition is read-locked.
+    pub fn read_locked(self, number: usize) -> bool
+        ensures { λ r. ⌜ r ≡ readLocked self number ⌝ }
+    {
+        if number < 2 { self.locks[number] } else { false }
+    }
+}
+
+impl Answer {
+    pub fn code(self) -> u8
+        ensures { λ r. ⌜ r ≡ codeOf self ⌝ }
+    {
+        match self {
+            Answer::Done(_) => 0x00,
+            Answer::Cleared(_) => 0x04,
+            Answer::Denied => 0x05,
+            Answer::DigestFailed(_) => 0x06,
+            Answer::NotReady => 0x07,
+            Answer::LifeCycleFailed(_) => 0x07,
+            Answer::WrongLength => 0x10,
+            Answer::UnknownTarget => 0x11,
+            Answer::InvalidConstants => 0x12,
+            Answer::StrokesUsed => 0x20,
+            Answer::NotInTable => 0x21,
+            Answer::TokenNotLocked => 0x22,
+            Answer::TokenDiffers => 0x23,
+        }
+    }
+
+    pub fn value(self) -> u64
+        ensures { λ r. ⌜ r ≡ valueOf self ⌝ }
+    {
+        match self {
+            Answer::Done(value) => value,
+            Answer::Cleared(_) => 0,
+            Answer::Denied => 0,
+            Answer::DigestFailed(partition) => partition as u64,
+            Answer::NotReady => 0,
+            Answer::LifeCycleFailed(value) => value,
+            Answer::WrongLength => 0,
+            Answer::UnknownTarget => 0,
+            Answer::InvalidConstants => 0,
+            Answer::StrokesUsed => 0,
+            Answer::NotInTable => 0,
+            Answer::TokenNotLocked => 0,
+            Answer::TokenDiffers => 0,
+        }
+    }
+}

@@ -1,0 +1,94 @@
+//! Independent test program: compares a proved program with a second one,
+//! written from the rules alone by other means.
+
+mod bench;
+mod cases;
+mod child;
+mod chips;
+mod compare;
+mod constants;
+mod digest;
+mod inputs;
+mod life_cycle;
+mod map;
+mod model;
+mod power_up;
+mod present;
+mod random;
+mod runs;
+mod scenarios;
+mod script;
+mod speed;
+mod sweeps;
+#[cfg(test)]
+mod the_cases;
+mod transition;
+mod twin;
+mod walk;
+mod words;
+
+use random::Random;
+use std::path::Path;
+use std::process::ExitCode;
+
+const USAGE: &str = "usage:
+  independent compare PROGRAM [COUNT] [SEED]
+  independent speed PROGRAM [COUNT]
+  independent compare-runs PROGRAM [COUNT] [SEED]
+  independent bench";
+
+const CASES: u64 = 24_000;
+const RUNS: u64 = 2_400;
+const SPEED_COUNT: u64 = 200_000;
+const SEED: u64 = 20_260;
+
+fn main() -> ExitCode {
+    let arguments: Vec<String> = std::env::args().skip(1).collect();
+    match perform(&arguments) {
+        Ok(true) => ExitCode::SUCCESS,
+        Ok(false) => ExitCode::from(1),
+        Err(message) => {
+            eprintln!("{message}");
+            ExitCode::from(2)
+        }
+    }
+}
+
+/// True when all agrees.
+fn perform(arguments: &[String]) -> Result<bool, String> {
+    let command = arguments.first().map(String::as_str);
+    match (command, arguments.len()) {
+        (Some("compare"), 2..=4) => {
+            let count = number(arguments.get(2), CASES)?;
+            let seed = number(arguments.get(3), SEED)?;
+            println!("seed {seed}");
+            let cases = inputs::make(count as usize, &mut Random::new(seed));
+            compare::compare(Path::new(&arguments[1]), &cases)
+        }
+        (Some("speed"), 2..=3) => {
+            let count = number(arguments.get(2), SPEED_COUNT)?;
+            speed::speed(Path::new(&arguments[1]), count)
+        }
+        (Some("compare-runs"), 2..=4) => {
+            let count = number(arguments.get(2), RUNS)?;
+            let seed = number(arguments.get(3), SEED)?;
+            println!("seed {seed}");
+            runs::compare(&arguments[1], count, &mut Random::new(seed))
+        }
+        (Some("bench"), 1) => match bench::run() {
+            Ok(()) => Ok(true),
+            Err(error) => Err(error.to_string()),
+        },
+        _ => Err(USAGE.to_string()),
+    }
+}
+
+/// A number given as an argument, or what stands for it.
+fn number(argument: Option<&String>, otherwise: u64) -> Result<u64, String> {
+    match argument {
+        None => Ok(otherwise),
+        Some(text) => text
+            .parse()
+            .map_err(|_| format!("{text}: not a number\n{USAGE}")),
+    }
+}

@@ -1,0 +1,179 @@
+//! Random runs of a bench program: a script and two files.
+
+use crate::bench;
+use crate::chips;
+use crate::model::{Chip, Command};
+use crate::random::Random;
+use crate::script::{record, LONGEST};
+use crate::walk;
+
+/// One run. A file may be missing.
+pub struct Run {
+    pub script: Vec<u8>,
+    pub image: Option<Vec<u8>>,
+    pub constants: Option<Vec<u8>>,
+}
+
+impl Run {
+    /// A run of commands on cells.
+    pub fn of(commands: &[Command], cells: &[u16], constants: &[u16]) -> Run {
+        Run {
+            script: commands
+                .iter()
+                .flat_map(|&command| record(command))
+                .collect(),
+            image: Some(bench::file_of_words(cells)),
+            constants: Some(bench::file_of_words(constants)),
+        }
+    }
+
+    /// What a right bench program prints.
+    pub fn printed(&self) -> String {
+        let bytes = |file: &Option<Vec<u8>>| file.clone().unwrap_or_default();
+        bench::printed(&self.script, &bytes(&self.image), &bytes(&self.constants))
+    }
+}
+
+/// A random run.
+pub fn make(random: &mut Random) -> Run {
+    let valid = chips::constants(random);
+    let cells = chips::image(&valid, random);
+    let constants = match random.below(16) {
+        0 => chips::invalid_constants(random),
+        // Valid, but not those of the image.
+        1 => chips::constants(random),
+        _ => valid,
+    };
+    let mut chip = Chip::new(cells.clone(), constants.clone());
+    Run {
+        script: script(&mut chip, random),
+        image: file(bench::file_of_words(&cells), random),
+        constants: file(bench::file_of_words(&constants), random),
+    }
+}
+
+/// A script for the chip, well formed most of the time.
+fn script(chip: &mut Chip, random: &mut Random) -> Vec<u8> {
+    let length = random.choose(&[2, 12, 30, 60, 90, 120]);
+    let commands = walk::walk(chip, 1 + random.below(length), random);
+    let mut records: Vec<Vec<u8>> = commands.into_iter().map(record).collect();
+    match random.below(40) {
+        0..=3 => records.push(cut(random)),
+        4..=6 => {
+            let place = random.below(records.len() as u64 + 1) as usize;
+            records.insert(place, vec![unknown_kind(random)]);
+        }
+        7 => records = vec![(0..random.below(60)).map(|_| random.next() as u8).collect()],
+        8 => {
+            let small = |random: &mut Random| random.below(9) as u8;
+            records.push((0..random.below(30)).map(|_| small(random)).collect());
+        }
+        9 => records.clear(),
+        10 if random.one_in(3) => {
+            let length =
+                LONGEST + random.choose(&[0, 0, 0, 1, 1, 2, 5000]) - random.choose(&[0, 0, 1]);
+            return filled(records.concat(), length, random);
+        }
+        _ => {}
+    }
+    records.concat()
+}
+
+/// The beginning of a record that lacks its end.
+fn cut(random: &mut Random) -> Vec<u8> {
+    let commands = [
+        Command::Read(0),
+        Command::Write(0x100, 7),
+        Command::FrontRead(0x200),
+        Command::Digest(0x200),
+        Command::ReadLock(0),
+        Command::Transition(1, random.wide()),
+    ];
+    let mut bytes = record(random.choose(&commands));
+    bytes.truncate(1 + random.below(bytes.len() as u64 - 1) as usize);
+    bytes
+}
+
+fn unknown_kind(random: &mut Random) -> u8 {
+    match random.below(3) {
+        0 => random.choose(&[0, 8, 9, 0x10, 0x17, 0x80, 0x81, 0xff]),
+        _ => 8 + random.below(248) as u8,
+    }
+}
+
+/// The script brought to a length with reads, the last bytes as they fall.
+fn filled(mut script: Vec<u8>, length: usize, random: &mut Random) -> Vec<u8> {
+    while script.len() < length {
+        script.extend(record(Command::Read(walk::address(random))));
+    }
+    script.truncate(length);
+    script
+}
+
+/// A file as it is meant, or missing, or of a wrong length.
+fn file(mut bytes: Vec<u8>, random: &mut Random) -> Option<Vec<u8>> {
+    let right = bytes.len();
+    match random.below(50) {
+        0 => None,
+        1..=2 => {
+            let lengths = [
+                0,
+                1,
+                2,
+                right / 2,
+                right - 2,
+                right - 1,
+                right + 1,
+                right + 2,
+                2 * right,
+                264,
+                896,
+            ];
+            bytes.resize(random.choose(&lengths), 0);
+            Some(bytes)
+        }
+        _ => Some(bytes),
+    }
+}
+
+#[cfg(test)]
+mod tests {
+    use super::*;
+    use std::collections::BTreeSet;
+
+    /// Kind and code of each pair that runs should bring out.
+    fn expected_pairs() -> BTreeSet<String> {
+        let by_kind = [
+            ("01", "00 05 07 10 12 13"),
+            ("02", "00 04 05 07 10 12 13"),
+            ("03", "00 05 07 10 12 13"),
+            ("04", "00 04 05 07 10 12 13"),
+            ("05", "00 05 07 10 12 13"),
+            ("06", "00 07 10 11 12 13 20 21 22 23"),
+            ("07", "00 06 07 10 12"),
+            ("00", "11 14"),
+        ];
+        let pairs = |(kind, codes): (&str, &str)| -> Vec<String> {
+            codes
+                .split(' ')
+                .map(|code| format!("{kind} {code}"))
+                .collect()
+        };
+        by_kind.into_iter().flat_map(pairs).collect()
+    }
+
+    #[test]
+    fn runs_bring_out_every_answer() {
+        let mut random = Random::new(31);
+        let mut missing = expected_pairs();
+        for _ in 0..2000 {
+            for line in make(&mut random).printed().lines() {
+                missing.remove(line.get(..5).unwrap_or(line));
+            }
+            if missing.is_empty() {
+                return;
+            }
+        }
+        panic!("never printed: {missing:?}");
+    }
+}

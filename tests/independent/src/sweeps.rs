@@ -1,0 +1,197 @@
+//! Runs over the edges, each at least once; they come before random ones.
+
+use crate::chips;
+use crate::constants::{A, B, C, D};
+use crate::life_cycle::{token_between, SCRAP};
+use crate::map::{CELLS, HW_CFG, MAP};
+use crate::model::{Chip, Command};
+use crate::random::Random;
+use crate::scenarios::Run;
+use crate::script::record;
+use Command::{Digest, FrontRead, PowerUp, Read, ReadLock, Transition, Write};
+
+/// All sweeps, over one set of valid constants.
+pub fn runs(random: &mut Random) -> Vec<Run> {
+    let constants = chips::constants(random);
+    let mut runs = addresses(&constants, random);
+    runs.extend(numbers(&constants));
+    runs.extend(broken_scripts(&constants));
+    runs.extend(broken_constants(&constants));
+    runs.extend(life_cycles(&constants));
+    runs.extend(transitions(&constants, random));
+    runs.extend(damages(&constants, random));
+    runs
+}
+
+fn blank() -> Vec<u16> {
+    vec![0; CELLS]
+}
+
+/// Every address with each command that has one, on three chips.
+fn addresses(constants: &[u16], random: &mut Random) -> Vec<Run> {
+    let half_written = chips::provisioned(constants, 2, random);
+    let locked = chips::locked(constants, random);
+    // The third write clears bits of a granule's high words only.
+    let makers: [fn(u32) -> Command; 6] = [
+        Read,
+        FrontRead,
+        Digest,
+        |address| Write(address, 1 << (address % 64)),
+        |address| Write(address, u64::MAX),
+        |address| Write(address, 0xffff),
+    ];
+    let mut runs = Vec::new();
+    for cells in [blank(), half_written, locked] {
+        for maker in makers {
+            let mut commands = vec![PowerUp];
+            commands.extend((0..0x3a0).map(maker));
+            commands.extend((0..0x380).step_by(4).map(Read));
+            commands.push(PowerUp);
+            runs.push(Run::of(&commands, &cells, constants));
+        }
+    }
+    runs
+}
+
+/// Every partition number for a read lock, every target above the last.
+fn numbers(constants: &[u16]) -> Vec<Run> {
+    let tries = |number| [PowerUp, ReadLock(number), Read(0), Read(0x100), Read(0x1f8)];
+    let locks: Vec<Command> = (0..=255).flat_map(tries).collect();
+    let mut targets = vec![PowerUp];
+    targets.extend((SCRAP + 1..=255).map(|target| Transition(target, 0)));
+    targets.push(Read(0));
+    vec![
+        Run::of(&locks, &blank(), constants),
+        Run::of(&targets, &blank(), constants),
+    ]
+}
+
+/// Every unknown kind, and every known one cut at every length.
+fn broken_scripts(constants: &[u16]) -> Vec<Run> {
+    let unknown = (0..=255)
+        .filter(|kind| !(1..=7).contains(kind))
+        .map(|kind| vec![kind, 7]);
+    let commands = [
+        Read(0),
+        Write(0, 0),
+        FrontRead(0),
+        Digest(0),
+        ReadLock(0),
+        Transition(0, 0),
+    ];
+    let cuts = commands.into_iter().flat_map(|command| {
+        let whole = record(command);
+        (1..whole.len()).map(move |length| whole[..length].to_vec())
+    });
+    let run = |tail: Vec<u8>| {
+        let mut run = Run::of(&[PowerUp, Read(0x200)], &blank(), constants);
+        run.script.extend(tail);
+        run
+    };
+    unknown.chain(cuts).map(run).collect()
+}
+
+/// Each pair of life cycle constants made invalid in each way.
+fn broken_constants(constants: &[u16]) -> Vec<Run> {
+    let counters = (C..D).zip(D..A);
+    let states = (A..B).zip(B..B + (B - A));
+    let mut runs = Vec::new();
+    for (low, high) in counters.chain(states) {
+        let lacking = 1 << constants[low].trailing_zeros();
+        let ways = [(0, constants[high]), (constants[high], constants[high])];
+        let lacks = (constants[low], constants[high] & !lacking);
+        for (before, after) in ways.into_iter().chain([lacks]) {
+            let mut broken = constants.to_vec();
+            (broken[low], broken[high]) = (before, after);
+            runs.push(Run::of(&[Read(0), PowerUp], &blank(), &broken));
+        }
+    }
+    runs
+}
+
+/// Every state with every count, powered up and scrapped.
+fn life_cycles(constants: &[u16]) -> Vec<Run> {
+    let mut runs = Vec::new();
+    for state in 0..=SCRAP {
+        for count in 0..=24 {
+            let mut cells = blank();
+            chips::lay(&mut cells, constants, state, count);
+            let commands = [PowerUp, Transition(SCRAP, 0), Read(0), PowerUp];
+            runs.push(Run::of(&commands, &cells, constants));
+        }
+    }
+    runs
+}
+
+/// Every state with every target. Tokens differ in a bit first, then agree.
+fn transitions(constants: &[u16], random: &mut Random) -> Vec<Run> {
+    let locked = chips::locked(constants, random);
+    let mut bits = (0..128).cycle();
+    let mut runs = Vec::new();
+    for state in 0..=SCRAP {
+        let (mut open, mut closed) = (blank(), locked.clone());
+        chips::lay(&mut open, constants, state, 1);
+        chips::lay(&mut closed, constants, state, 1);
+        let mut chip = Chip::new(closed.clone(), constants.to_vec());
+        chip.execute(PowerUp);
+        let (mut refused, mut unlocked) = (vec![PowerUp], vec![PowerUp]);
+        for target in 0..=SCRAP {
+            let Some(asked) = token_between(state, target) else {
+                refused.extend([Transition(target, 0), PowerUp]);
+                continue;
+            };
+            let right = chip.right_token(asked);
+            let mut commands = vec![PowerUp];
+            for bit in bits.by_ref().take(3) {
+                commands.extend([Transition(target, right ^ 1 << bit), PowerUp]);
+            }
+            commands.extend([Transition(target, right), PowerUp, Read(0x278)]);
+            runs.push(Run::of(&commands, &closed, constants));
+            unlocked.extend([Transition(target, right), PowerUp]);
+        }
+        runs.push(Run::of(&refused, &closed, constants));
+        runs.push(Run::of(&unlocked, &open, constants));
+    }
+    runs
+}
+
+/// A bit flipped in each word that power-up looks at.
+fn damages(constants: &[u16], random: &mut Random) -> Vec<Run> {
+    let mut cells = chips::locked(constants, random);
+    chips::lay(&mut cells, constants, 5, 7);
+    let mut runs = Vec::new();
+    for word in MAP[HW_CFG].data().start..CELLS {
+        let mut damaged = cells.clone();
+        damaged[word] ^= 1 << random.below(16);
+        runs.push(Run::of(&[PowerUp, Read(0x248)], &damaged, constants));
+    }
+    runs
+}
+
+#[cfg(test)]
+mod tests {
+    use super::*;
+
+    #[test]
+    fn damage_is_always_told() {
+        let mut random = Random::new(41);
+        let constants = chips::constants(&mut random);
+        for run in damages(&constants, &mut random) {
+            let printed = run.printed();
+            assert!(
+                printed.starts_with("07 06") || printed.starts_with("07 07"),
+                "{printed}"
+            );
+        }
+    }
+
+    #[test]
+    fn broken_constants_are_always_told() {
+        let constants = chips::constants(&mut Random::new(42));
+        let runs = broken_constants(&constants);
+        assert_eq!(runs.len(), 44 * 3);
+        for run in runs {
+            assert!(run.printed().starts_with("01 12 0000000000000000\n07 12"));
+        }
+    }
+}

@@ -1,0 +1,342 @@
+//! The 14 cases of the paper, and rules about the record beside them.
+
+use crate::constants::{example, raw_token};
+use crate::life_cycle::{counter_words, state_words};
+use crate::map::CELLS;
+use crate::model::{Answer, Chip, Command, Phase, Session};
+use Command::{Digest, FrontRead, PowerUp, Read, ReadLock, Transition, Write};
+
+const COUNTERS_AT: usize = 0x328 / 2;
+
+fn blank() -> Chip {
+    Chip::new(vec![0; CELLS], example())
+}
+
+fn ready() -> Chip {
+    powered(blank())
+}
+
+fn powered(mut chip: Chip) -> Chip {
+    assert_eq!(chip.execute(PowerUp).code, 0);
+    chip
+}
+
+/// A chip with a state and a count in its cells.
+fn at(state: u8, count: u8) -> Chip {
+    let mut chip = blank();
+    let words = [
+        counter_words(&example(), count),
+        state_words(&example(), state),
+    ]
+    .concat();
+    chip.cells[COUNTERS_AT..].copy_from_slice(&words);
+    chip
+}
+
+/// Executes the commands; each must give its code and value.
+fn expect(chip: &mut Chip, steps: &[(Command, u8, u64)]) {
+    for &(command, code, value) in steps {
+        assert_eq!(
+            chip.execute(command),
+            Answer { code, value },
+            "{command:x?}"
+        );
+    }
+}
+
+#[test]
+fn case_01_blank_power_up() {
+    expect(&mut blank(), &[(PowerUp, 0, 0)]);
+}
+
+#[test]
+fn case_02_blank_reads() {
+    let mut chip = ready();
+    assert_eq!(chip.execute(Read(0x327)).code, 0);
+    expect(
+        &mut chip,
+        &[
+            (Read(0x328), 5, 0),
+            (Read(0x37f), 5, 0),
+            (Read(0x380), 5, 0),
+        ],
+    );
+}
+
+#[test]
+fn case_03_low_address_bits() {
+    let mut chip = ready();
+    expect(
+        &mut chip,
+        &[
+            (Write(3, 0xdead_beef_1234_5678), 0, 0),
+            (Read(0), 0, 0x1234_5678),
+        ],
+    );
+    assert_eq!(chip.cells[..3], [0x5678, 0x1234, 0]);
+}
+
+#[test]
+fn case_04_bits_are_only_set() {
+    let steps = [
+        (Write(0, 0x0f), 0, 0),
+        (Write(0, 0xf0), 4, 0),
+        (Write(0, 0xff), 0, 0),
+    ];
+    expect(&mut ready(), &steps);
+}
+
+#[test]
+fn case_05_hardware_digest_is_not_written() {
+    expect(&mut ready(), &[(Write(0x248, 1), 5, 0)]);
+}
+
+#[test]
+fn case_06_digest_at_a_start_only() {
+    expect(&mut ready(), &[(Digest(0), 5, 0), (Digest(0x204), 5, 0)]);
+}
+
+#[test]
+fn case_07_software_digest_locks_from_power_up() {
+    let steps = [
+        (Write(0x0f8, 1), 0, 0),
+        (Write(0x004, 1), 0, 0),
+        (PowerUp, 0, 0),
+        (Write(0x004, 1), 5, 0),
+    ];
+    expect(&mut ready(), &steps);
+}
+
+#[test]
+fn case_08_read_lock() {
+    let steps = [
+        (ReadLock(0), 0, 0),
+        (Read(0x000), 5, 0),
+        (Read(0x0f8), 0, 0),
+        (ReadLock(0), 0, 0),
+        (Read(0x100), 0, 0),
+        (ReadLock(2), 5, 0),
+        (PowerUp, 0, 0),
+        (Read(0x000), 0, 0),
+    ];
+    expect(&mut ready(), &steps);
+}
+
+#[test]
+fn case_09_raw_unlock() {
+    let mut chip = ready();
+    expect(&mut chip, &[(Transition(1, raw_token(&example())), 0, 0)]);
+    assert_eq!(chip.session.phase, Phase::Inert);
+    let others = [
+        Read(0),
+        Write(0, 0),
+        FrontRead(0x200),
+        Digest(0x200),
+        ReadLock(0),
+        Transition(21, 0),
+    ];
+    for command in others {
+        expect(&mut chip, &[(command, 7, 0)]);
+    }
+    expect(&mut chip, &[(PowerUp, 0, 257)]);
+}
+
+#[test]
+fn case_10_wrong_token() {
+    let token = raw_token(&example()) ^ 1 << 127;
+    expect(
+        &mut ready(),
+        &[(Transition(1, token), 0x23, 0), (PowerUp, 0, 256)],
+    );
+}
+
+#[test]
+fn case_11_not_in_the_table() {
+    expect(
+        &mut ready(),
+        &[(Transition(16, 0), 0x21, 0), (PowerUp, 0, 256)],
+    );
+}
+
+#[test]
+fn case_12_strokes_used() {
+    let mut chip = powered(at(1, 24));
+    let cells = chip.cells.clone();
+    expect(&mut chip, &[(Transition(20, 0), 0x20, 0)]);
+    assert_eq!(chip.cells, cells);
+    assert_eq!(chip.session.phase, Phase::Inert);
+}
+
+#[test]
+fn case_13_token_partition_open() {
+    let mut chip = powered(at(2, 2));
+    expect(
+        &mut chip,
+        &[(Transition(3, 0), 0x22, 0), (PowerUp, 0, 3 * 256 + 2)],
+    );
+}
+
+#[test]
+fn case_14_front_read_is_sensed() {
+    let steps = [
+        (Write(0x200, 0x1234), 0, 0),
+        (FrontRead(0x200), 0, 0),
+        (Read(0x200), 0, 0x1234),
+        (PowerUp, 0, 0),
+        (FrontRead(0x203), 0, 0x1234),
+        (Read(0x200), 0, 0x1234),
+        (FrontRead(0x248), 5, 0),
+    ];
+    expect(&mut ready(), &steps);
+}
+
+#[test]
+fn secrets_lock_and_open_by_token() {
+    let mut chip = powered(at(2, 2));
+    let (low, high) = (0x1122_3344_5566_7788, 0x99aa_bbcc_ddee_ff00);
+    expect(
+        &mut chip,
+        &[(Write(0x250, low), 0, 0), (Write(0x25f, high), 0, 0)],
+    );
+    expect(&mut chip, &[(Read(0x257), 0, low)]);
+    let digest = chip.computed_digest(3);
+    expect(
+        &mut chip,
+        &[(Digest(0x250), 0, digest), (Read(0x250), 0, low)],
+    );
+    expect(
+        &mut chip,
+        &[
+            (PowerUp, 0, 0x202),
+            (Read(0x250), 5, 0),
+            (Read(0x275), 0, digest),
+        ],
+    );
+    let token = u128::from(high) << 64 | u128::from(low);
+    expect(
+        &mut chip,
+        &[(Transition(3, token + 1), 0x23, 0), (PowerUp, 0, 0x302)],
+    );
+    expect(
+        &mut chip,
+        &[(Transition(3, token), 0, 0), (PowerUp, 0, 0x403)],
+    );
+}
+
+#[test]
+fn damage_is_found_in_order_and_empties_all() {
+    let mut chip = ready();
+    for start in [0x200, 0x250, 0x278, 0x2d0] {
+        assert_eq!(chip.execute(Digest(start)).code, 0);
+    }
+    chip.execute(PowerUp);
+    chip.cells[0x2d0 / 2] ^= 1;
+    expect(&mut chip, &[(PowerUp, 6, 5)]);
+    chip.cells[0x278 / 2] ^= 1;
+    expect(&mut chip, &[(PowerUp, 6, 4), (Read(0), 7, 0)]);
+    assert_eq!(chip.copy, vec![0; CELLS]);
+    assert_eq!(
+        chip.session,
+        Session {
+            phase: Phase::Dead(6),
+            ..Session::fresh()
+        }
+    );
+}
+
+#[test]
+fn scrap_and_invalid_life_cycles() {
+    expect(
+        &mut at(20, 9),
+        &[(PowerUp, 7, 9 * 256 + 20), (Read(0), 7, 0)],
+    );
+    expect(&mut at(20, 0), &[(PowerUp, 7, 0xffff)]);
+    expect(&mut at(1, 0), &[(PowerUp, 7, 0xffff)]);
+    expect(&mut at(0, 24), &[(PowerUp, 0, 24 * 256)]);
+}
+
+#[test]
+fn a_target_above_20_changes_nothing() {
+    let mut chip = ready();
+    let before = chip.clone();
+    expect(
+        &mut chip,
+        &[(Transition(21, 0), 0x11, 0), (Transition(255, 0), 0x11, 0)],
+    );
+    assert_eq!(chip, before);
+}
+
+#[test]
+fn a_record_beyond_the_table_is_not_ready() {
+    for (state, count) in [(21, 0), (0, 25), (255, 255)] {
+        let mut chip = ready();
+        (chip.session.state, chip.session.count) = (state, count);
+        let before = chip.clone();
+        expect(
+            &mut chip,
+            &[(Transition(21, 0), 7, 0), (Transition(1, 0), 7, 0)],
+        );
+        assert_eq!(chip, before);
+        expect(&mut chip, &[(Read(0), 0, 0)]);
+    }
+}
+
+#[test]
+fn a_cleared_bit_in_a_transition_is_death() {
+    let mut chip = ready();
+    chip.cells[COUNTERS_AT] = 0x4000;
+    let cells = chip.cells.clone();
+    expect(&mut chip, &[(Transition(20, 0), 4, 0)]);
+    assert_eq!(chip.cells, cells);
+    assert_eq!(chip.session.phase, Phase::Dead(4));
+
+    let mut chip = ready();
+    chip.cells[CELLS - 1] = 0x4000;
+    expect(&mut chip, &[(Transition(20, 0), 4, 0)]);
+    assert_eq!(
+        chip.cells[COUNTERS_AT..COUNTERS_AT + 24],
+        counter_words(&example(), 1)
+    );
+    assert_eq!(chip.cells[COUNTERS_AT + 24..CELLS - 1], [0; 19]);
+    assert_eq!(chip.session.phase, Phase::Dead(4));
+}
+
+#[test]
+fn lengths_come_before_constants_and_phase() {
+    for part in 0..3 {
+        let mut chip = ready();
+        chip.constants[36] = 0;
+        let lent = [&mut chip.cells, &mut chip.copy, &mut chip.constants];
+        lent.into_iter().nth(part).unwrap().push(0);
+        let before = chip.clone();
+        expect(
+            &mut chip,
+            &[(PowerUp, 0x10, 0), (Transition(21, 0), 0x10, 0)],
+        );
+        assert_eq!(chip, before);
+    }
+    let mut chip = ready();
+    chip.session.read_locks = [true; 2];
+    chip.constants[36] = 0;
+    let before = chip.clone();
+    expect(&mut chip, &[(PowerUp, 0x12, 0), (Read(0x380), 0x12, 0)]);
+    assert_eq!(chip, before);
+}
+
+#[test]
+fn a_digest_that_would_clear_a_bit() {
+    let mut chip = ready();
+    let first = chip.computed_digest(2);
+    expect(
+        &mut chip,
+        &[(Digest(0x200), 0, first), (Digest(0x200), 0, first)],
+    );
+    expect(
+        &mut chip,
+        &[
+            (Write(0x200, 1), 0, 0),
+            (Digest(0x200), 4, 0),
+            (PowerUp, 6, 2),
+        ],
+    );
+}

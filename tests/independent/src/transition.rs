@@ -1,0 +1,85 @@
+//! Life cycle transition: a stroke is spent before anything is compared.
+
+use crate::constants::{self, COUNTERS};
+use crate::life_cycle::{self, Token, MOST_STROKES, SCRAP};
+use crate::map::{LIFE_CYCLE, MAP, SECRET0, SECRET2};
+use crate::model::{Answer, Chip, Phase, BIT_CLEARED, NOT_READY};
+use crate::words;
+
+/// Partition of each stored token and its byte address.
+const TEST_UNLOCK: (usize, usize) = (SECRET0, 0x250);
+const TEST_EXIT: (usize, usize) = (SECRET0, 0x260);
+const RMA_TOKEN: (usize, usize) = (SECRET2, 0x2D0);
+
+const WRONG_TARGET: Answer = Answer::refusal(0x11);
+const NO_STROKES: Answer = Answer::refusal(0x20);
+const NOT_IN_TABLE: Answer = Answer::refusal(0x21);
+const TOKEN_NOT_LOCKED: Answer = Answer::refusal(0x22);
+const TOKEN_DIFFERS: Answer = Answer::refusal(0x23);
+
+impl Chip {
+    pub fn transition(&mut self, target: u8, token: u128) -> Answer {
+        if self.session.state > SCRAP || self.session.count > MOST_STROKES {
+            return NOT_READY;
+        }
+        if target > SCRAP {
+            return WRONG_TARGET;
+        }
+        let answer = self.attempt(target, token);
+        self.session.phase = match answer {
+            BIT_CLEARED => Phase::Dead(0x04),
+            _ => Phase::Inert,
+        };
+        answer
+    }
+
+    fn attempt(&mut self, target: u8, token: u128) -> Answer {
+        if self.session.count == MOST_STROKES {
+            return NO_STROKES;
+        }
+        let counters_at = MAP[LIFE_CYCLE].data().start;
+        let counters = life_cycle::counter_words(&self.constants, self.session.count + 1);
+        if !self.program(counters_at, &counters) {
+            return BIT_CLEARED;
+        }
+        let Some(asked) = life_cycle::token_between(self.session.state, target) else {
+            return NOT_IN_TABLE;
+        };
+        if let Some(refusal) = self.judge_token(asked, token) {
+            return refusal;
+        }
+        let states = life_cycle::state_words(&self.constants, target);
+        match self.program(counters_at + COUNTERS, &states) {
+            true => Answer::done(0),
+            false => BIT_CLEARED,
+        }
+    }
+
+    fn judge_token(&self, asked: Token, given: u128) -> Option<Answer> {
+        let locked = |(partition, _): (usize, usize)| self.session.digests[partition] != 0;
+        if !stored_at(asked).is_none_or(locked) {
+            return Some(TOKEN_NOT_LOCKED);
+        }
+        let differs = asked != Token::None && given != self.right_token(asked);
+        differs.then_some(TOKEN_DIFFERS)
+    }
+
+    /// The token that a transition asking for `asked` is given rightly.
+    pub fn right_token(&self, asked: Token) -> u128 {
+        match (stored_at(asked), asked) {
+            (Some((_, address)), _) => words::wide_number(&self.copy[address / 2..]),
+            (None, Token::Raw) => constants::raw_token(&self.constants),
+            (None, _) => 0,
+        }
+    }
+}
+
+/// Partition and address of a token held in a secret partition.
+fn stored_at(asked: Token) -> Option<(usize, usize)> {
+    match asked {
+        Token::TestUnlock => Some(TEST_UNLOCK),
+        Token::TestExit => Some(TEST_EXIT),
+        Token::Rma => Some(RMA_TOKEN),
+        Token::None | Token::Raw => None,
+    }
+}
