@@ -2,21 +2,21 @@
 use mathlib.Core.Path.{_≡_, refl, sym, ap, ap₂, _∙_}
 use mathlib.Core.Bool.{Bool, true, false}
 use mathlib.Core.List.{List, [], _∷_, _++_, append-nil, append-assoc}
-use Prim.Native.Nat.{ℕ, zero, suc, _+_, _-_, _≤_, _<_}
-use native.Mathlib.Nat.{add-zero, add-suc, suc-add, zero-add}
+use Prim.Native.Nat.{ℕ, suc, _+_, _≤_, _<_}
+use native.Mathlib.Nat.{add-zero, add-suc}
 use native.Mathlib.Numerals.{add-one}
 use native.Mathlib.Omega.{arith}
 use lib.Dec.{ltb}
-use lib.ListN.{length, getD, set, take, drop, length-take, length-drop, length-set, take-append-drop, List·getD-eq-default}
+use lib.ListN.{length, getD, set, take, drop, length-drop, length-set, take-append-drop, List·getD-eq-default}
 use lib.Seq.{sets, sets-eq, getD-take, getD-drop, drop-drop, drop-length, drop-cons, take-suc, take-all, take-length, append-snoc, set-at, length-take-le}
 use borrow.Author.Tests.{ltb-true, ltb-false}
 use Rattle.basics.specs.Choice.{if_then_else_}
-use Rattle.basics.proofs.Choice.{by-cases, if-both}
+use Rattle.basics.proofs.Choice.{by-cases}
 use Rattle.words.specs.declared.Programmed.{Programmed}
 use Rattle.words.specs.declared.Programmed.the-variants.{Done, Refused}
-use Rattle.words.specs.Programming.{refuses, programAnswer, stored, programCells}
+use Rattle.words.specs.Programming.{refuses, programAnswer, programCells}
 use Rattle.words.proofs.Parts.{sets-past}
-use Rattle.words.proofs.Programming.{answer-next, answer-stop, answer-same, blank-passes, by-answer, refused-lowest, stored-done, stored-refused}
+use Rattle.words.proofs.Programming.{answer-next, answer-stop, blank-passes, by-answer, refused-lowest, stored-done, stored-refused}
 
 -- ---- the loop over a part: one word more is tested, one word more is stored
 

@@ -1,7 +1,7 @@
 -- Laws of programming, for whatever stands above. The idea: the answer goes word by word from the lowest, so each law is an induction on the value.
 use mathlib.Core.Path.{_≡_, refl, sym, ap, ap₂, _∙_}
-use mathlib.Core.Bool.{Bool, true, false, _&&_}
-use mathlib.Core.List.{List, [], _∷_, _++_}
+use mathlib.Core.Bool.{true, false, _&&_}
+use mathlib.Core.List.{List, [], _∷_}
 use Prim.Native.Nat.{ℕ, zero, suc, _+_, _≤_, _<_}
 use native.Mathlib.Nat.{le-refl, le-trans, add-zero, add-suc, suc-add}
 use native.Mathlib.Omega.{arith}
@@ -11,9 +11,9 @@ use lib.ListN.{length, getD, set}
 use lib.Seq.{sets, length-sets, getD-set-same, getD-set-other, set-out}
 use borrow.Author.Tests.{eqb-true, eqb-false, ne-eqb, ltb-true, ltb-false}
 use Rattle.basics.specs.Choice.{if_then_else_}
-use Rattle.basics.specs.Range.{anyBelow, listed}
+use Rattle.basics.specs.Range.{listed}
 use Rattle.basics.specs.Digits.{bit}
-use Rattle.basics.proofs.Choice.{by-cases, not-passed, true-not-false, if-true, if-false, if-both}
+use Rattle.basics.proofs.Choice.{by-cases, if-true, if-false}
 use Rattle.basics.proofs.Range.{none-at, none-below}
 use Rattle.basics.proofs.Digits.{digit-lt}
 use Rattle.basics.proofs.Bits.{bit-or, or-covered}

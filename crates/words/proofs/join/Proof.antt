@@ -1,8 +1,7 @@
 -- The lowest four words, or all of them where they are fewer.
-use mathlib.Core.Path.{_≡_, sym, ap, _∙_}
+use mathlib.Core.Path.{sym, ap, _∙_}
 use native.Mathlib.Nat.{le-of-eq}
 use native.Mathlib.Omega.{arith}
-use borrow.Author.Needs.{needs}
 use lib.Seq.{length-take-le, take-all}
 use Rattle.words.specs.Words.{numberOf}
 use Rattle.words.proofs.join.Statement.{statement}

@@ -1,6 +1,6 @@
 -- The invariant: x is the number of the words from i on, so it stays below 2 ^ 48 until the last word is joined.
 use mathlib.Core.Path.{_≡_}
-use Prim.Native.Nat.{ℕ, suc, _≤_, _<_, _-_, _^_}
+use Prim.Native.Nat.{suc, _≤_, _<_, _-_, _^_}
 use native.Mathlib.Omega.{arith}
 use borrow.Author.Needs.{needs}
 use lib.ListN.{length, drop}

@@ -1,13 +1,12 @@
 -- The part lent ends within the cells and is as long as the words lent with it; the laws of `Lent` carry its answer and its words to the whole array.
-use mathlib.Core.Path.{_≡_, refl, sym, ap, _∙_}
+use mathlib.Core.Path.{_≡_, sym, ap, _∙_}
 use mathlib.Core.List.{List, _++_}
-use Prim.Native.Nat.{ℕ, _+_, _-_, _≤_, _<_}
+use Prim.Native.Nat.{ℕ, _+_, _-_, _<_}
 use native.Mathlib.Omega.{arith}
-use lib.ListN.{length, take, drop}
+use lib.ListN.{take, drop}
 use lib.Seq.{length-take-le}
 use Rattle.words.specs.declared.Programmed.the-variants.{Refused}
 use Rattle.words.specs.Programming.{programAnswer, programCells}
-use Rattle.words.proofs.Programming.{refused-lowest}
 use Rattle.words.proofs.Lent.{past-cells, same-lengths, handed-back, refused-within, counted}
 use borrow.Author.Needs.{needs}
 use Rattle.words.proofs.program.Statement.{statement}

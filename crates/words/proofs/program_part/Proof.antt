@@ -1,5 +1,5 @@
 -- Where the test is done the part becomes the value, which is all that `programCells` stores; where a word refuses, neither changes it.
-use mathlib.Core.Path.{_≡_, sym, _∙_}
+use mathlib.Core.Path.{sym, _∙_}
 use borrow.Author.Needs.{needs}
 use Rattle.words.proofs.Programming.{stored-done, stored-refused}
 use Rattle.words.proofs.Lent.{sets-whole}
