@@ -5,3 +5,7 @@ pub mod Acts
 pub mod Commands
 pub mod PowerUp
 pub mod Step
+pub mod Terms
+pub mod Demand3
+pub mod Beyond
+pub mod Cases

@@ -1,0 +1,391 @@
+-- Two chips that differ only in hidden words answer alike. The idea: both decide the same act, since what an act depends on shows; a performed
+-- act changes no hidden word; and hidden partitions stay locked.
+use mathlib.Core.Path.{_≡_, refl, sym, ap, ap₂, subst, _∙_}
+use mathlib.Core.Bool.{Bool, true, false, not, _&&_, _||_}
+use mathlib.Core.List.{List, [], _∷_}
+use mathlib.Core.Option.{Option}
+use Prim.Native.Nat.{ℕ, zero, suc, _+_, _*_, _-_, _/_, _≤_, _<_}
+use native.Mathlib.Nat.{zero-add}
+use native.Mathlib.Omega.{arith}
+use lib.Dec.{eqb, leb, ltb}
+use lib.ListN.{length, getD, set, length-set}
+use lib.Seq.{sets, length-sets, getD-set-same, getD-set-other, set-out}
+use borrow.Author.Tests.{leb-true, leb-false, le-leb, lt-leb, eqb-true, eqb-false, ltb-true, ltb-false, not-true, not-false}
+use Rattle.basics.specs.Choice.{if_then_else_}
+use Rattle.basics.specs.Range.{listed}
+use Rattle.basics.proofs.Choice.{by-cases, true-not-false, not-passed, if-true, if-false}
+use Rattle.basics.proofs.Range.{listed-at}
+use Rattle.words.specs.declared.Programmed.{Programmed}
+use Rattle.words.specs.declared.Programmed.the-variants as programmed
+use Rattle.words.specs.Words.{numberOf, partAt}
+use Rattle.words.specs.Programming.{programAnswer, programCells}
+use Rattle.words.proofs.Parts.{part-same}
+use Rattle.words.proofs.Programming.{answer-same, by-answer, stored-done, stored-refused, program-length}
+use Rattle.partitions.specs.declared.Kind.{Kind}
+use Rattle.partitions.specs.declared.Kind.the-variants as kind
+use Rattle.partitions.specs.declared.Partition.{Partition}
+use Rattle.partitions.specs.Fitness.{fit}
+use Rattle.partitions.proofs.KindRights.{hardware-direct, scrambled-hardware, front-hardware, front-not-scrambled, lockable-not-hardware}
+use Rattle.partitions.proofs.Map.{inside, partition-fit, partition-word, life-cycle-partition}
+use Rattle.partitions.proofs.Granules.{granule-within, word-inside, word-number, digest-word}
+use Rattle.partitions.specs.Map.{Map, rightsOf, numberAt, partition, partitionAt, limit, inDigest, firstWord, wordCount, numberOfKind}
+use Rattle.life_cycle.specs.Words.{decoded}
+use Rattle.model.specs.declared.Answer.{Answer}
+use Rattle.model.specs.declared.Answer.the-variants.{Done}
+use Rattle.model.specs.declared.Session.{Session}
+use Rattle.model.specs.declared.Command.{Command}
+use Rattle.model.specs.declared.Command.the-variants.{Read, Write, FrontRead, Digest, ReadLock, Transition, PowerUp}
+use Rattle.model.specs.Session.{isReady, sensedAt, sensedLocked, readLocked}
+use Rattle.model.specs.Lent.{Lent, Machine, Primitives, digestStart, digestFinal}
+use Rattle.model.specs.Acts.{Turn, stay, turned, Act, say, program, compare, Performed, afterProgram, noting, perform}
+use Rattle.model.specs.Commands.{granule, storedDigest, dataWords, computedDigest, unscrambled, counterAt, stateAt, writeAct, readAct, frontReadAct, digestAct, readLockAct, transitionAct, tokenAct, lockedTokenAct, entryAct, moveAct, commandAct, readyAct}
+use Rattle.model.specs.PowerUp.{digests, Waking, fails, wakes, waking, wakingOf, verdictOf, lifeCycleIn, copyWord, wokenCopy, wokenSession, wokenAnswer}
+use Rattle.model.specs.Step.{Step, performed, act, powerUp, obey, step, after, answers}
+use Rattle.model.specs.Terms.{Right, Digested, Agree, Matched, Hidden, HiddenWord, Alike}
+use Rattle.model.proofs.Acts.{Within, says, programs, compares, within-map}
+use Rattle.model.proofs.Frame.{Open, unlocked, lifeCycle, not-locked, life-words, act-within}
+use Rattle.model.proofs.Steps.{step-obeys, step-up, cells-length, up-right, act-right}
+use Rattle.model.proofs.Locks.{Locked, up-locked, act-locked}
+
+-- ---- cells that are equal where P holds
+
+pub record Same (P : ℕ → Type 0) (c d : List ℕ) : Type 0 where
+  pub at : (j : ℕ) → P j → getD c j 0 ≡ getD d j 0
+
+set-alike : {P : ℕ → Type 0} (c d : List ℕ) (i v : ℕ) → length c ≡ length d → Same P c d → Same P (set c i v) (set d i v)
+set-alike {P} c d i v e h = record { at = λ j p. by-cases (eqb j i) (here j p) (there j p) }
+  where
+    put : (j : ℕ) → P j → getD (set c j v) j 0 ≡ getD (set d j v) j 0
+    put j p =
+        by-cases (ltb j (length c)) (λ t. getD-set-same c j v 0 (ltb-true _ _ t) ∙ sym (getD-set-same d j v 0 (omega (arith, ltb-true))))
+        (λ t. rw (set-out c j v (ltb-false _ _ t), set-out d j v (omega (arith, ltb-false))) (h .at j p))
+
+    here : (j : ℕ) → P j → eqb j i ≡ true → getD (set c i v) j 0 ≡ getD (set d i v) j 0
+    here j p t = rw (← eqb-true j i t) (put j p)
+
+    there : (j : ℕ) → P j → eqb j i ≡ false → getD (set c i v) j 0 ≡ getD (set d i v) j 0
+    there j p t = rw (getD-set-other c i j v 0 (eqb-false j i t), getD-set-other d i j v 0 (eqb-false j i t)) (h .at j p)
+
+sets-alike : {P : ℕ → Type 0} (vs c d : List ℕ) (i : ℕ) → length c ≡ length d → Same P c d → Same P (sets c i vs) (sets d i vs)
+sets-alike [] c d i e h = h
+sets-alike (v ∷ vs) c d i e h = sets-alike vs (set c i v) (set d i v) (suc i) (rw (length-set c i v, length-set d i v) e) (set-alike c d i v e h)
+
+program-alike : {P : ℕ → Type 0} (vs c d : List ℕ) (i : ℕ) → length c ≡ length d → Same P c d → programAnswer c i vs ≡ programAnswer d i vs
+    → Same P (programCells c i vs) (programCells d i vs)
+program-alike vs c d i e h q =
+    by-answer (programAnswer c i vs) (λ t. rw (stored-done c vs i t, stored-done d vs i (sym q ∙ t)) (sets-alike vs c d i e h))
+    (λ n t. rw (stored-refused c vs i n t, stored-refused d vs i n (sym q ∙ t)) h)
+
+-- ---- one act on two chips
+
+pub record SameOutcome (P : ℕ → Type 0) (r q : Performed) : Type 0 where
+  pub answer : r .answer ≡ q .answer
+  pub turn : r .turn ≡ q .turn
+  pub cells : Same P (r .cells) (q .cells)
+
+abbrev Twin : (ℕ → Type 0) → Performed → Performed → Type 0
+Twin P r q = Agree (r .compared) (q .compared) → SameOutcome P r q
+
+after-twin : (Q : Performed → Performed → Type 0) (r : Programmed) (x x′ : Performed) (f f′ : ℕ → Performed)
+    → Q x x′ → ((cell : ℕ) → Q (f cell) (f′ cell)) → Q (afterProgram r x f) (afterProgram r x′ f′)
+unfolding afterProgram
+after-twin Q programmed.Done x x′ f f′ h g = h
+after-twin Q (programmed.Refused cell) x x′ f f′ h g = g cell
+
+if-twin : (Q : Performed → Performed → Type 0) {b b′ : Bool} (x y x′ y′ : Performed) → b ≡ b′ → Q x x′ → Q y y′ → Q (if b then x else y) (if b′ then x′ else y′)
+if-twin Q {b} x y x′ y′ e f g =
+    by-cases b (λ t. rw (if-true x y t, if-true x′ y′ (sym e ∙ t)) f) (λ t. rw (if-false x y t, if-false x′ y′ (sym e ∙ t)) g)
+
+perform-twin : {P : ℕ → Type 0} {x : Act} → Within P x → (k k′ c d : List ℕ) → length c ≡ length d → Same P c d → Twin P (perform x k c) (perform x k′ d)
+unfolding perform noting
+perform-twin says k k′ c d e h = λ g. record { answer = refl; turn = refl; cells = h }
+perform-twin {P} (programs {at = at} {words = words} inside next) k k′ c d e h =
+    let q : programAnswer c at words ≡ programAnswer d at words = answer-same words c d at (λ j l u. h .at j (inside j l u)) in
+    rw (← q)
+    (after-twin (Twin P) (programAnswer c at words) _ _ _ _
+    (perform-twin next k k′ (programCells c at words) (programCells d at words) (rw (program-length c words at, program-length d words at) e) (program-alike words c d at e h q))
+    (λ cell g. record { answer = refl; turn = refl; cells = h }))
+perform-twin {P} (compares {test = test} same other) k k′ c d e h = λ g.
+    let r = if-twin (Twin P) _ _ _ _ (g .0) (perform-twin same k k′ c d e h) (perform-twin other k k′ c d e h) (g .1) in
+    record { answer = r .answer; turn = r .turn; cells = r .cells }
+
+if-same {ℓ} : {A : Type ℓ} {b : Bool} {x y x′ y′ : A} → (b ≡ true → x ≡ x′) → (b ≡ false → y ≡ y′) → (if b then x else y) ≡ (if b then x′ else y′)
+if-same {b = b} {x = x} {y = y} {x′ = x′} {y′ = y′} f g =
+    by-cases b (λ t. if-true x y t ∙ f t ∙ sym (if-true x′ y′ t)) (λ t. if-false x y t ∙ g t ∙ sym (if-false x′ y′ t))
+
+scrambled-direct : (k : Kind) → rightsOf k .scrambled ≡ true → rightsOf k .direct ≡ true
+scrambled-direct k e = hardware-direct k (scrambled-hardware k e)
+
+-- ---- what shows, where partitions with H hide their data
+
+module _ (map : Map) (H : ℕ → Type 0) where
+  pub record Shown (j : ℕ) : Type 0 where
+    pub shows : H (numberAt map (2 * j)) → inDigest (partitionAt map (2 * j)) (2 * j) ≡ false → ⊥
+
+  -- a word that front reads see
+  pub record FrontWord (j : ℕ) : Type 0 where
+    pub low : j < limit map / 2
+    pub front : rightsOf (partitionAt map (2 * j) .kind) .front ≡ true
+
+abbrev made : List ℕ → List ℕ → List ℕ → Session → Machine
+made c k t s = record { lent = record { cells = c; copy = k; constants = t }; session = s }
+
+module _ (prims : Primitives) (map : Map) (F : fit map ≡ true) (H : ℕ → Type 0) (known : (n : ℕ) → H n → n < length map)
+    (secret : (n : ℕ) → H n → rightsOf (partition map n .kind) .scrambled ≡ true) where
+  pub hidden-digested : (n : ℕ) → H n → Digested map n
+  hidden-digested n h = record { known = known n h; direct = scrambled-direct _ (secret n h) }
+
+  -- a partition that hides nothing shows all its words, and a digest always shows
+  open-shown : (n j : ℕ) → (H n → ⊥) → numberAt map (2 * j) ≡ n → Shown map H j
+  open-shown n j h e = record { shows = λ v u. h (subst H e v) }
+
+  module _ (s : Session) (shut : (n : ℕ) → H n → isReady (s .phase) ≡ true → sensedAt s n ≡ 0 → ⊥) (c d k k′ t : List ℕ)
+      (h : Same (Shown map H) c d) (g : Same (FrontWord map H) k k′) where
+    granule-same : (a : ℕ) → a < limit map
+        → ((j : ℕ) → firstWord (partitionAt map a) a ≤ j → j < firstWord (partitionAt map a) a + wordCount (partitionAt map a) a → Shown map H j)
+        → granule (partitionAt map a) c a ≡ granule (partitionAt map a) d a
+    unfolding granule
+    granule-same a l f = ap numberOf (part-same c d _ _ (λ j lo hi. h .at j (f j lo hi)))
+
+    digest-shown : (a j : ℕ) → a < limit map → inDigest (partitionAt map a) a ≡ true
+        → firstWord (partitionAt map a) a ≤ j → j < firstWord (partitionAt map a) a + wordCount (partitionAt map a) a → Shown map H j
+    unfolding partitionAt
+    digest-shown a j l i lo hi =
+        let e = word-number map F l lo hi in
+        record { shows = λ v u. true-not-false (rw e (word-inside map F l lo hi .side ∙ i)) u }
+
+    -- data of an unlocked partition shows
+    data-shown : (a j : ℕ) → a < limit map → isReady (s .phase) ≡ true → (rightsOf (partitionAt map a .kind) .scrambled && sensedLocked s (numberAt map a)) ≡ false
+        → firstWord (partitionAt map a) a ≤ j → j < firstWord (partitionAt map a) a + wordCount (partitionAt map a) a → Shown map H j
+    unfolding partitionAt
+    data-shown a j l r z lo hi =
+        open-shown (numberAt map a) j (λ v. shut (numberAt map a) v r (not-locked s (numberAt map a) (rw (secret (numberAt map a) v) at z))) (word-number map F l lo hi)
+
+    front-same : (a : ℕ) → a < limit map → rightsOf (partitionAt map a .kind) .front ≡ true → granule (partitionAt map a) k a ≡ granule (partitionAt map a) k′ a
+    unfolding granule partitionAt
+    front-same a l f =
+        ap numberOf (part-same k k′ _ _ (λ j lo hi. g .at j (record { low = omega (arith, granule-within map F l); front = rw (word-number map F l lo hi) f })))
+
+    computed-same : (a : ℕ) → a < limit map → (H (numberAt map a) → ⊥) → computedDigest prims map t (partitionAt map a) c ≡ computedDigest prims map t (partitionAt map a) d
+    unfolding computedDigest dataWords partitionAt
+    computed-same a l n =
+        let i = numberAt map a in
+        let b = inside map F l .known in
+        let f = partition-fit map F b in
+        ap (prims .digest (digestStart t) (digestFinal t))
+        (part-same c d _ _ (λ j lo hi. h .at j (open-shown i j n (partition-word map F b lo (omega arith)))))
+
+    -- both chips decide the same
+    command-same : (x : Command) → isReady (s .phase) ≡ true → commandAct prims map (made c k t s) x ≡ commandAct prims map (made d k′ t s) x
+    unfolding commandAct writeAct readAct frontReadAct digestAct readLockAct transitionAct entryAct tokenAct lockedTokenAct moveAct
+    command-same (Write a value) r = refl
+    command-same (Read a) r = if-same (λ e. refl) λ l. if-same (λ e. refl) λ e. if-same
+        (λ i. ap (λ (x : ℕ). say (Done x) stay) (granule-same a (leb-false _ _ l) (λ j lo hi. digest-shown a j (leb-false _ _ l) i lo hi)))
+        λ i. if-same (λ e. refl) λ e. if-same (λ e. refl)
+        λ z. ap (λ (x : ℕ). say (Done (unscrambled prims map t (partitionAt map a) x)) stay) (granule-same a (leb-false _ _ l) (λ j lo hi. data-shown a j (leb-false _ _ l) r z lo hi))
+    command-same (FrontRead a) r = if-same (λ t. refl) λ l. if-same (λ t. refl) λ f. if-same (λ t. refl) λ i.
+        ap (λ (x : ℕ). say (Done x) stay) (front-same a (leb-false _ _ l) (not-false _ f))
+    command-same (Digest a) r = if-same (λ t. refl) λ l. if-same (λ t. refl) λ f. if-same (λ t. refl) λ i. if-same (λ t. refl) λ z.
+        rw (computed-same a (leb-false _ _ l) (λ v. shut (numberAt map a) v r (not-locked s (numberAt map a) z)))
+    command-same (ReadLock number) r = refl
+    command-same (Transition target high low) r = refl
+    command-same PowerUp r = refl
+
+    pub decided-same : (x : Command) → readyAct prims map (made c k t s) x ≡ readyAct prims map (made d k′ t s) x
+    unfolding readyAct
+    decided-same x = if-same (λ e. refl) λ r. command-same x (not-false _ r)
+
+-- ---- two chips side by side
+
+front-shown : (map : Map) (H : ℕ → Type 0) → ((n : ℕ) → H n → rightsOf (partition map n .kind) .scrambled ≡ true) → (j : ℕ) → FrontWord map H j → Shown map H j
+unfolding partitionAt
+front-shown map H secret j f = record { shows = λ v u. true-not-false (secret _ v) (front-not-scrambled _ (f .front)) }
+
+module _ (prims : Primitives) (map : Map) where
+  -- a word that front reads see is latched as it stands
+  pub front-latched : (constants cells : List ℕ) (j : ℕ) → rightsOf (partitionAt map (2 * j) .kind) .front ≡ true → copyWord prims map constants cells j ≡ getD cells j 0
+  unfolding copyWord
+  front-latched constants cells j f =
+      if-false _ _ (not-passed _ (λ t. true-not-false (front-hardware _ f) (lockable-not-hardware _ t))) ∙ rw (front-not-scrambled _ f) (if-false _ _ refl)
+
+  digests-same : (f g : Partition → ℕ) (ps : Map) → ((n : ℕ) → n < length ps → rightsOf (partition ps n .kind) .direct ≡ true → f (partition ps n) ≡ g (partition ps n)) → digests f ps ≡ digests g ps
+  unfolding digests partition
+  digests-same f g [] h = refl
+  digests-same f g (p ∷ ps) h =
+      let rest = digests-same f g ps (λ n l e. h (suc n) (omega arith) e) in
+      if-same (λ e. ap₂ (λ (x : ℕ) (l : List ℕ). x ∷ l) (h 0 (omega arith) e) rest) (λ e. rest)
+
+module _ (prims : Primitives) (map : Map) (F : fit map ≡ true) (H : ℕ → Type 0) (known : (n : ℕ) → H n → n < length map)
+    (secret : (n : ℕ) → H n → rightsOf (partition map n .kind) .scrambled ≡ true) where
+  abbrev digested : (n : ℕ) → H n → Digested map n
+  digested = hidden-digested prims map F H known secret
+
+  pub record Pair (m n : Machine) : Type 0 where
+    pub right : Right map m
+    pub rightToo : Right map n
+    pub fuses : Same (Shown map H) (m .lent .cells) (n .lent .cells)
+    pub views : Same (FrontWord map H) (m .lent .copy) (n .lent .copy)
+    pub constants : m .lent .constants ≡ n .lent .constants
+    pub records : m .session ≡ n .session
+    pub locks : (p : ℕ) (h : H p) → Locked prims map F p (digested p h) m
+
+  pub record SamePair (s u : Step) : Type 0 where
+    pub answer : s .result .answer ≡ u .result .answer
+    pub pair : Pair (s .result .machine) (u .result .machine)
+
+  -- ---- power-up
+
+  digest-shows : (n : ℕ) → n < length map → rightsOf (partition map n .kind) .direct ≡ true
+      → (j : ℕ) → partition map n .digest / 2 ≤ j → j < partition map n .digest / 2 + 4 → Shown map H j
+  unfolding partitionAt
+  digest-shows n l e j lo hi =
+      let q = digest-word map F l e lo hi in
+      record { shows = λ v u. true-not-false (rw (q .0) (q .1)) u }
+
+  stored-alike : (c d : List ℕ) → Same (Shown map H) c d → (n : ℕ) → n < length map → rightsOf (partition map n .kind) .direct ≡ true
+      → storedDigest (partition map n) c ≡ storedDigest (partition map n) d
+  unfolding storedDigest
+  stored-alike c d h n l e = ap numberOf (part-same c d _ 4 (λ j lo hi. h .at j (digest-shows n l e j lo hi)))
+
+  life-shut : (j : ℕ) → numberAt map (2 * j) ≡ numberOfKind map kind.LifeCycle → rightsOf (partition map (numberAt map (2 * j)) .kind) .direct ≡ false
+  life-shut j e = rw e (life-cycle-partition map F .closed)
+
+  life-shown : (j : ℕ) → counterAt prims map ≤ j → j < counterAt prims map + 44 → Shown map H j
+  life-shown j lo hi = record { shows = λ v u. true-not-false (scrambled-direct _ (secret _ v)) (life-shut j (life-words prims map F j lo hi)) }
+
+  life-same : (c d k k′ t : List ℕ) → Same (Shown map H) c d
+      → lifeCycleIn prims map (record { cells = c; copy = k; constants = t }) ≡ lifeCycleIn prims map (record { cells = d; copy = k′; constants = t })
+  unfolding lifeCycleIn stateAt
+  life-same c d k k′ t h =
+      ap₂ (λ (x y : List ℕ). decoded t x y) (part-same c d _ 24 (λ j lo hi. h .at j (life-shown j lo (omega arith))))
+      (part-same c d _ 20 (λ j lo hi. h .at j (life-shown j (omega arith) (omega arith))))
+
+  copies-alike : (t c d : List ℕ) → Same (Shown map H) c d
+      → Same (FrontWord map H) (listed (copyWord prims map t c) 0 (limit map / 2)) (listed (copyWord prims map t d) 0 (limit map / 2))
+  copies-alike t c d h = record { at = word }
+    where
+      word : (j : ℕ) → FrontWord map H j → getD (listed (copyWord prims map t c) 0 (limit map / 2)) j 0 ≡ getD (listed (copyWord prims map t d) 0 (limit map / 2)) j 0
+      word j f =
+          listed-at (copyWord prims map t c) 0 _ j (f .low) ∙ front-latched prims map t c j (f .front) ∙ h .at j (front-shown map H secret j f)
+          ∙ sym (listed-at (copyWord prims map t d) 0 _ j (f .low) ∙ front-latched prims map t d j (f .front))
+
+  woken-views : (w : Waking) (c d k k′ t : List ℕ) → Same (Shown map H) c d
+      → Same (FrontWord map H) (wokenCopy prims map w (record { cells = c; copy = k; constants = t })) (wokenCopy prims map w (record { cells = d; copy = k′; constants = t }))
+  unfolding wokenCopy
+  woken-views (fails reason answer) c d k k′ t h = record { at = λ j f. refl }
+  woken-views (wakes state count) c d k k′ t h = copies-alike t c d h
+
+  woken-records : (w : Waking) (c d k k′ t : List ℕ) → Same (Shown map H) c d
+      → wokenSession prims map w (record { cells = c; copy = k; constants = t }) ≡ wokenSession prims map w (record { cells = d; copy = k′; constants = t })
+  unfolding wokenSession
+  woken-records (fails reason answer) c d k k′ t h = refl
+  woken-records (wakes state count) c d k k′ t h = rw (digests-same prims map (λ p. storedDigest p c) (λ p. storedDigest p d) map (λ n l e. stored-alike c d h n l e))
+
+  up-made : (c d k k′ t : List ℕ) (s s′ : Session) → Right map (made c k t s) → Right map (made d k′ t s′) → Same (Shown map H) c d
+      → ((p : ℕ) → H p → storedDigest (partition map p) c ≡ 0 → ⊥)
+      → Agree (powerUp prims map (made c k t s) .verdicts) (powerUp prims map (made d k′ t s′) .verdicts)
+      → SamePair (powerUp prims map (made c k t s)) (powerUp prims map (made d k′ t s′))
+  unfolding powerUp waking
+  up-made c d k k′ t s s′ r r′ h z g =
+      let e = ap₂ wakingOf (sym (g .0)) (sym (life-same c d k k′ t h)) in
+      record {
+        answer = ap (wokenAnswer prims map) (sym e);
+        pair = record {
+          right = up-right prims map (made c k t s) r;
+          rightToo = up-right prims map (made d k′ t s′) r′;
+          fuses = h;
+          views = rw e (woken-views _ c d k k′ t h);
+          constants = refl;
+          records = rw e (woken-records _ c d k k′ t h);
+          locks = λ p v. up-locked prims map F p (digested p v) (made c k t s) (z p v);
+        };
+      }
+
+  up-pair : (m n : Machine) → Right map m → Right map n → Same (Shown map H) (m .lent .cells) (n .lent .cells) → m .lent .constants ≡ n .lent .constants
+      → ((p : ℕ) → H p → storedDigest (partition map p) (m .lent .cells) ≡ 0 → ⊥)
+      → Agree (powerUp prims map m .verdicts) (powerUp prims map n .verdicts) → SamePair (powerUp prims map m) (powerUp prims map n)
+  up-pair m n r r′ h e z g =
+      subst (λ (t : List ℕ). Right map (made (n .lent .cells) (n .lent .copy) t (n .session))
+      → Agree (powerUp prims map m .verdicts) (powerUp prims map (made (n .lent .cells) (n .lent .copy) t (n .session)) .verdicts)
+      → SamePair (powerUp prims map m) (powerUp prims map (made (n .lent .cells) (n .lent .copy) t (n .session)))) e
+      (λ q f. up-made (m .lent .cells) (n .lent .cells) (m .lent .copy) (n .lent .copy) (m .lent .constants) (m .session) (n .session) r q h z f) r′ g
+
+  pub first-pair : (m n : Machine) → Right map m → Right map n → Same (Shown map H) (m .lent .cells) (n .lent .cells) → m .lent .constants ≡ n .lent .constants
+      → ((p : ℕ) → H p → storedDigest (partition map p) (m .lent .cells) ≡ 0 → ⊥)
+      → Agree (step prims map PowerUp m .verdicts) (step prims map PowerUp n .verdicts) → SamePair (step prims map PowerUp m) (step prims map PowerUp n)
+  first-pair m n r r′ h e z = rw (step-up prims map m r, step-up prims map n r′) (up-pair m n r r′ h e z)
+
+  -- ---- an act
+
+  decided : (x : Command) (m n : Machine) → Pair m n → readyAct prims map n x ≡ readyAct prims map m x
+  decided x m n h =
+      subst (λ (t : List ℕ). readyAct prims map (made (n .lent .cells) (n .lent .copy) t (n .session)) x ≡ readyAct prims map m x) (h .constants)
+      (subst (λ (s : Session). readyAct prims map (made (n .lent .cells) (n .lent .copy) (m .lent .constants) s) x ≡ readyAct prims map m x) (h .records)
+      (sym (decided-same prims map F H known secret (m .session) (λ p v. h .locks p v .felt) (m .lent .cells) (n .lent .cells) (m .lent .copy) (n .lent .copy) (m .lent .constants) (h .fuses) (h .views) x)))
+
+  -- no hidden word is programmed
+  shown-within : (x : Command) (m n : Machine) → Pair m n → Within (Shown map H) (readyAct prims map m x)
+  shown-within x m n h = within-map go (act-within prims map F m x)
+    where
+      go : (j : ℕ) → Open map x (m .session) j → Shown map H j
+      go j (unlocked r d z) = record { shows = λ v u. h .locks _ v .felt r z }
+      go j (lifeCycle r t e) = record { shows = λ v u. true-not-false (scrambled-direct _ (secret _ v)) (life-shut j e) }
+
+  act-pair : (x : Command) (m n : Machine) → Pair m n → Agree (act prims map x m .compared) (act prims map x n .compared) → SamePair (act prims map x m) (act prims map x n)
+  unfolding act performed
+  act-pair x m n h g =
+      let e = decided x m n h in
+      let lengths = cells-length prims map m (h .right) ∙ sym (cells-length prims map n (h .rightToo)) in
+      let r = perform-twin (shown-within x m n h) (m .lent .copy) (n .lent .copy) (m .lent .cells) (n .lent .cells) lengths (h .fuses) (rw e at g) in
+      rw e (record {
+        answer = r .answer;
+        pair = record {
+          right = act-right prims map x m (h .right);
+          rightToo = rw e at (act-right prims map x n (h .rightToo));
+          fuses = r .cells;
+          views = h .views;
+          constants = h .constants;
+          records = ap₂ turned (r .turn) (h .records);
+          locks = λ p v. act-locked prims map F p (digested p v) x m (h .locks p v);
+        };
+      })
+
+  obey-both : (Q : Step → Step → Type 0) (x : Command) (m n : Machine) → Q (powerUp prims map m) (powerUp prims map n) → Q (act prims map x m) (act prims map x n) → Q (obey prims map x m) (obey prims map x n)
+  unfolding obey
+  obey-both Q (Read a) m n h f = f
+  obey-both Q (Write a value) m n h f = f
+  obey-both Q (FrontRead a) m n h f = f
+  obey-both Q (Digest a) m n h f = f
+  obey-both Q (ReadLock number) m n h f = f
+  obey-both Q (Transition target high low) m n h f = f
+  obey-both Q PowerUp m n h f = h
+
+  pub step-pair : (x : Command) (m n : Machine) → Pair m n → Agree (step prims map x m .compared) (step prims map x n .compared)
+      → Agree (step prims map x m .verdicts) (step prims map x n .verdicts) → SamePair (step prims map x m) (step prims map x n)
+  step-pair x m n h = rw (step-obeys prims map x m (h .right), step-obeys prims map x n (h .rightToo))
+      (obey-both (λ s u. Agree (s .compared) (u .compared) → Agree (s .verdicts) (u .verdicts) → SamePair s u) x m n
+      (λ a v. up-pair m n (h .right) (h .rightToo) (h .fuses) (h .constants) (λ p w. h .locks p w .burnt) v) (λ a v. act-pair x m n h a))
+
+  pub after-pair : (l : List Command) (m n : Machine) → Pair m n → Matched prims map l m n
+      → (answers prims map l m ≡ answers prims map l n) × Pair (after prims map l m) (after prims map l n)
+  unfolding answers after Matched
+  after-pair [] m n h g = (refl, h)
+  after-pair (x ∷ l) m n h g =
+      let o = step-pair x m n h (g .0) (g .1) in
+      let r = after-pair l (step prims map x m .result .machine) (step prims map x n .result .machine) (o .pair) (g .2) in
+      (ap₂ (λ (a : Answer) (rest : List Answer). a ∷ rest) (o .answer) (r .0), r .1)
+
+-- ---- the theorem
+
+pub two-chips : (prims : Primitives) (map : Map) → fit map ≡ true → (m n : Machine) → Right map m → Right map n → m .lent .constants ≡ n .lent .constants
+    → Alike map (m .lent .cells) (n .lent .cells) (m .lent .cells) (n .lent .cells)
+    → (l : List Command) → Matched prims map (PowerUp ∷ l) m n
+    → (answers prims map (PowerUp ∷ l) m ≡ answers prims map (PowerUp ∷ l) n)
+    × (after prims map (PowerUp ∷ l) m .session ≡ after prims map (PowerUp ∷ l) n .session)
+    × Alike map (m .lent .cells) (n .lent .cells) (after prims map (PowerUp ∷ l) m .lent .cells) (after prims map (PowerUp ∷ l) n .lent .cells)
+unfolding answers after Matched
+two-chips prims map F m n r r′ e h l g =
+    let H = Hidden map (m .lent .cells) (n .lent .cells) in
+    let o = first-pair prims map F H (λ p v. v .known) (λ p v. v .secret) m n r r′ (record { at = λ j q. h .at j (λ w. q .shows (w .hidden) (w .isData)) }) e (λ p v. v .nonzero) (g .1) in
+    let t = after-pair prims map F H (λ p v. v .known) (λ p v. v .secret) l (step prims map PowerUp m .result .machine) (step prims map PowerUp n .result .machine) (o .pair) (g .2) in
+    (ap₂ (λ (a : Answer) (rest : List Answer). a ∷ rest) (o .answer) (t .0), t .1 .records, record { at = λ j q. t .1 .fuses .at j (record { shows = λ v u. q (record { hidden = v; isData = u }) }) })

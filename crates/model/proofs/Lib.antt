@@ -1,0 +1,11 @@
+pub mod Acts
+pub mod Frame
+pub mod Steps
+pub mod Locks
+pub mod Ready
+pub mod Writes
+pub mod Chips
+pub mod Strokes
+pub mod Device
+pub mod Theorems
+pub mod Cases

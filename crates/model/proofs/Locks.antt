@@ -1,0 +1,145 @@
+-- A partition that a power-up found locked never changes. The idea: its stored digest is nonzero, so every power-up that succeeds senses it,
+-- and no command programs a partition whose sensed digest is nonzero.
+use mathlib.Core.Path.{_≡_, refl, sym, ap, _∙_}
+use mathlib.Core.Bool.{Bool, true, false}
+use mathlib.Core.List.{List, [], _∷_, _++_}
+use Prim.Native.Nat.{ℕ, zero, suc, _+_, _*_, _/_, _≤_, _<_}
+use native.Mathlib.Omega.{arith}
+use lib.Dec.{ltb}
+use lib.ListN.{length, getD}
+use borrow.Author.Tests.{ltb-true, ltb-false}
+use Rattle.basics.specs.Choice.{if_then_else_}
+use Rattle.basics.proofs.Choice.{by-cases, true-not-false, if-true}
+use Rattle.words.specs.Words.{numberOf, partAt}
+use Rattle.words.proofs.Parts.{part-same}
+use Rattle.partitions.specs.declared.Kind.the-variants as kind
+use Rattle.partitions.specs.declared.Partition.{Partition}
+use Rattle.partitions.specs.Fitness.{fit}
+use Rattle.partitions.proofs.Map.{only, partition-fit, direct-before-last, life-cycle-partition}
+use Rattle.partitions.specs.Map.{Map, rightsOf, numberAt, partition, partitionAt, numberOfKind}
+use Rattle.model.specs.declared.Phase.{Phase}
+use Rattle.model.specs.declared.Session.{Session}
+use Rattle.model.specs.declared.Command.{Command}
+use Rattle.model.specs.declared.Command.the-variants.{PowerUp}
+use Rattle.model.specs.Session.{isReady, sensedAt}
+use Rattle.model.specs.Lent.{Lent, Machine, Primitives}
+use Rattle.model.specs.Acts.{Turn, stay, lock, halt, die, turned, perform}
+use Rattle.model.specs.Commands.{storedDigest, readyAct}
+use Rattle.model.specs.PowerUp.{digests, Waking, fails, wakes, waking, wokenSession}
+use Rattle.model.specs.Step.{Step, unchanged, performed, act, powerUp, step, after}
+use Rattle.model.specs.Terms.{Right, Digested, SamePartition}
+use Rattle.model.proofs.Acts.{perform-frame}
+use Rattle.model.proofs.Frame.{Open, unlocked, lifeCycle, act-within}
+use Rattle.model.proofs.Steps.{after-append, step-all, step-up, after-right}
+
+pub same-refl : {map : Map} {n : ℕ} {c : List ℕ} → SamePartition map n c c
+same-refl = record { at = λ j l u. refl }
+
+pub same-trans : {map : Map} {n : ℕ} {c d e : List ℕ} → SamePartition map n c d → SamePartition map n d e → SamePartition map n c e
+same-trans f g = record { at = λ j l u. f .at j l u ∙ g .at j l u }
+
+-- a turn leaves what was sensed, and makes no phase Ready
+pub turned-sensed : (t : Turn) (s : Session) → turned t s .sensed ≡ s .sensed
+unfolding turned
+turned-sensed stay s = refl
+turned-sensed (lock number) s = refl
+turned-sensed halt s = refl
+turned-sensed die s = refl
+
+pub turned-ready : (t : Turn) (s : Session) → isReady (turned t s .phase) ≡ true → isReady (s .phase) ≡ true
+unfolding turned isReady
+turned-ready stay s e = e
+turned-ready (lock number) s e = e
+turned-ready halt s e = absurd (true-not-false e refl)
+turned-ready die s e = absurd (true-not-false e refl)
+
+-- the digest of partition n among those of the map
+module _ (f : Partition → ℕ) where
+  digests-at : (map : Map) (n : ℕ) → n < length map → ((i : ℕ) → i ≤ n → rightsOf (partition map i .kind) .direct ≡ true) → getD (digests f map) n 0 ≡ f (partition map n)
+  unfolding digests partition
+  digests-at [] n l h = absurd (omega arith)
+  digests-at (p ∷ ps) zero l h = rw (if-true (f p ∷ digests f ps) (digests f ps) (h 0 (omega arith)))
+  digests-at (p ∷ ps) (suc n) l h = rw (if-true (f p ∷ digests f ps) (digests f ps) (h 0 (omega arith))) (digests-at ps n (omega arith) (λ i k. h (suc i) (omega arith)))
+
+module _ (prims : Primitives) (map : Map) (F : fit map ≡ true) (n : ℕ) (D : Digested map n) where
+  -- every partition up to one with a digest has one
+  lower-direct : (i : ℕ) → i ≤ n → rightsOf (partition map i .kind) .direct ≡ true
+  lower-direct i l =
+      by-cases (ltb (suc i) (length map)) (λ t. direct-before-last map F (ltb-true _ _ t))
+      (λ t. let e : i ≡ n = omega (arith, D .known, ltb-false (suc i) (length map) t) in rw e (D .direct))
+
+  pub sensed-stored : (l : Lent) → getD (digests (λ p. storedDigest p (l .cells)) map) n 0 ≡ storedDigest (partition map n) (l .cells)
+  sensed-stored l = digests-at (λ p. storedDigest p (l .cells)) map n (D .known) lower-direct
+
+  pub stored-same : (c d : List ℕ) → SamePartition map n c d → storedDigest (partition map n) c ≡ storedDigest (partition map n) d
+  unfolding storedDigest
+  stored-same c d h =
+      let f = partition-fit map F (D .known) in
+      let e = f .tail (D .direct) in
+      ap numberOf (part-same c d (partition map n .digest / 2) 4 (λ j l u. h .at j (omega arith) (omega arith)))
+
+  -- the partition is locked: its stored digest is nonzero, and a Ready record has sensed it
+  pub record Locked (m : Machine) : Type 0 where
+    pub burnt : storedDigest (partition map n) (m .lent .cells) ≡ 0 → ⊥
+    pub felt : isReady (m .session .phase) ≡ true → sensedAt (m .session) n ≡ 0 → ⊥
+
+  woken-felt : (w : Waking) (l : Lent) → (storedDigest (partition map n) (l .cells) ≡ 0 → ⊥)
+      → isReady (wokenSession prims map w l .phase) ≡ true → sensedAt (wokenSession prims map w l) n ≡ 0 → ⊥
+  unfolding wokenSession isReady sensedAt
+  woken-felt (fails reason answer) l h r z = true-not-false r refl
+  woken-felt (wakes state count) l h r z = h (sym (sensed-stored l) ∙ z)
+
+  pub up-locked : (m : Machine) → (storedDigest (partition map n) (m .lent .cells) ≡ 0 → ⊥) → Locked (powerUp prims map m .result .machine)
+  unfolding powerUp
+  up-locked m h = record { burnt = h; felt = woken-felt (waking prims map (m .lent)) (m .lent) h }
+
+  shut : (x : Command) (m : Machine) → Locked m → (j : ℕ) → partition map n .start ≤ 2 * j → 2 * j < partition map n .end → Open map x (m .session) j → ⊥
+  shut x m k j l u (unlocked r d z) = k .felt r (rw (only map F (D .known) l u) at z)
+  shut x m k j l u (lifeCycle r t e) =
+      let q : n ≡ numberOfKind map kind.LifeCycle = sym (only map F (D .known) l u) ∙ e in
+      true-not-false (D .direct) (rw (← q) at (life-cycle-partition map F .closed))
+
+  pub act-same : (x : Command) (m : Machine) → Locked m → SamePartition map n (m .lent .cells) (act prims map x m .result .machine .lent .cells)
+  unfolding act performed
+  act-same x m k = record { at = λ j l u. sym (perform-frame (act-within prims map F m x) (m .lent .copy) (m .lent .cells) j (shut x m k j l u)) }
+
+  act-felt : (x : Command) (m : Machine) → Locked m → isReady (act prims map x m .result .machine .session .phase) ≡ true → sensedAt (act prims map x m .result .machine .session) n ≡ 0 → ⊥
+  unfolding act performed sensedAt
+  act-felt x m k r z = k .felt (turned-ready _ (m .session) r) (rw turned-sensed at z)
+
+  pub act-locked : (x : Command) (m : Machine) → Locked m → Locked (act prims map x m .result .machine)
+  act-locked x m k = record { burnt = λ z. k .burnt (stored-same _ _ (act-same x m k) ∙ z); felt = act-felt x m k }
+
+  up-same : (m : Machine) → SamePartition map n (m .lent .cells) (powerUp prims map m .result .machine .lent .cells)
+  unfolding powerUp
+  up-same m = same-refl
+
+  pub step-locked : (x : Command) (m : Machine) → Locked m
+      → Locked (step prims map x m .result .machine) × SamePartition map n (m .lent .cells) (step prims map x m .result .machine .lent .cells)
+  unfolding unchanged
+  step-locked x m k =
+      step-all prims map (λ (s : Step). Locked (s .result .machine) × SamePartition map n (m .lent .cells) (s .result .machine .lent .cells)) x m
+      (λ a. (k, same-refl)) (up-locked m (k .burnt), up-same m) (act-locked x m k, act-same x m k)
+
+  pub after-locked : (l : List Command) (m : Machine) → Locked m
+      → Locked (after prims map l m) × SamePartition map n (m .lent .cells) (after prims map l m .lent .cells)
+  unfolding after
+  after-locked [] m k = (k, same-refl)
+  after-locked (x ∷ l) m k =
+      let s = step-locked x m k in
+      let t = after-locked l (step prims map x m .result .machine) (s .0) in
+      (t .0, same-trans (s .1) (t .1))
+
+  first-locked : (m : Machine) → Right map m → (storedDigest (partition map n) (m .lent .cells) ≡ 0 → ⊥)
+      → Locked (step prims map PowerUp m .result .machine) × SamePartition map n (m .lent .cells) (step prims map PowerUp m .result .machine .lent .cells)
+  first-locked m r h = rw (step-up prims map m r) (up-locked m h, up-same m)
+
+  -- from a power-up that found it locked on, the partition is locked and the same
+  pub locked-since : (m : Machine) → Right map m → (l₁ l₂ : List Command) → (storedDigest (partition map n) (after prims map l₁ m .lent .cells) ≡ 0 → ⊥)
+      → Locked (after prims map (l₁ ++ PowerUp ∷ l₂) m) × SamePartition map n (after prims map l₁ m .lent .cells) (after prims map (l₁ ++ PowerUp ∷ l₂) m .lent .cells)
+  unfolding after
+  locked-since m r l₁ l₂ h =
+      let m₁ = after prims map l₁ m in
+      let k = first-locked m₁ (after-right prims map l₁ m r) h in
+      let t = after-locked l₂ (step prims map PowerUp m₁ .result .machine) (k .0) in
+      rw after-append (t .0, same-trans (k .1) (t .1))

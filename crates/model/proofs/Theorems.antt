@@ -1,0 +1,31 @@
+-- Demand 3 and what goes beyond it, for every cipher with the two laws and every fit map: each part is cited from its own file.
+use mathlib.Core.Path.{_≡_}
+use mathlib.Core.Bool.{true}
+use Rattle.partitions.specs.Map.{Map}
+use Rattle.partitions.specs.Fitness.{fit}
+use Rattle.model.specs.Lent.{Primitives}
+use Rattle.model.specs.Terms.{Cipher}
+use Rattle.model.specs.Demand3.{Demand3}
+use Rattle.model.specs.Beyond.{Beyond}
+use Rattle.model.proofs.Steps.{bits-stay}
+use Rattle.model.proofs.Locks.{locked-since}
+use Rattle.model.proofs.Writes.{allowed-writes}
+use Rattle.model.proofs.Chips.{two-chips}
+use Rattle.model.proofs.Strokes.{never-four, courses-run}
+use Rattle.model.proofs.Device.{device-final, after-unsensed}
+
+pub demand3 : (prims : Primitives) → Cipher prims → (map : Map) → fit map ≡ true → Demand3 prims map
+demand3 prims C map F = record {
+  bits = bits-stay prims map;
+  locks = λ m r n D l₁ l₂ h. locked-since prims map F n D m r l₁ l₂ h .1;
+  writes = λ m r l₀ l₁ ready a value v al. allowed-writes prims C map F m r l₀ l₁ a value v (ready .woke) (ready .lasts) al;
+  chips = λ m n r r′ e k h l g. two-chips prims map F m n r r′ k h l g;
+  strokes = never-four prims map F;
+}
+
+pub beyond : (prims : Primitives) (map : Map) → fit map ≡ true → Beyond prims map
+beyond prims map F = record {
+  device = device-final prims map F;
+  courses = courses-run prims map F;
+  sensing = after-unsensed prims map;
+}

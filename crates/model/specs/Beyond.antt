@@ -1,0 +1,60 @@
+-- Beyond demand 3, in the same style: the device code is final, the life cycle only goes forward, and what only a power-up or a transition changes.
+use Prim.Native.Nat.{ℕ, suc, _≤_}
+use mathlib.Core.Path.{_≡_}
+use mathlib.Core.Bool.{true}
+use mathlib.Core.List.{List, [], _∷_, _++_}
+use Rattle.partitions.specs.Map.{Map, rightsOf, numberAt, partition}
+use Rattle.life_cycle.specs.declared.LifeCycle.{LifeCycle}
+use Rattle.life_cycle.specs.declared.LifeCycle.the-variants.{Valid}
+use Rattle.life_cycle.specs.declared.Token.{Token}
+use Rattle.life_cycle.specs.declared.Entry.the-variants.{Allowed}
+use Rattle.life_cycle.specs.Transitions.{transition}
+use Rattle.model.specs.declared.Answer.the-variants.{Done}
+use Rattle.model.specs.declared.Command.{Command}
+use Rattle.model.specs.declared.Command.the-variants.{Read, Write, FrontRead, Digest, ReadLock, Transition, PowerUp}
+use Rattle.model.specs.Lent.{Machine, Primitives}
+use Rattle.model.specs.Commands.{granule, storedDigest}
+use Rattle.model.specs.PowerUp.{lifeCycleIn}
+use Rattle.model.specs.Step.{step, after}
+use Rattle.model.specs.Terms.{Right, Digested}
+
+-- the course of a life cycle: it stays, spends a stroke, or spends a stroke and takes an entry of the table
+pub data Course (x : LifeCycle) : LifeCycle → Type 0 where
+  stays : Course x x
+  spends : {state count : ℕ} → Course x (Valid state count) → Course x (Valid state (suc count))
+  moves : {state count target : ℕ} {token : Token} → Course x (Valid state count) → transition state target ≡ Allowed token → Course x (Valid target (suc count))
+
+-- neither a power-up nor a transition
+abbrev pub quiet : Command → Type 0
+quiet (Read a) = Unit {0}
+quiet (Write a value) = Unit {0}
+quiet (FrontRead a) = Unit {0}
+quiet (Digest a) = Unit {0}
+quiet (ReadLock number) = Unit {0}
+quiet (Transition target high low) = ⊥
+quiet PowerUp = ⊥
+
+abbrev pub Quiet : List Command → Type 0
+Quiet [] = Unit {0}
+Quiet (x ∷ l) = quiet x × Quiet l
+
+module _ (prims : Primitives) (map : Map) where
+  pub record Beyond : Type 0 where
+    -- once a power-up has found a partition with front reads (HW_CFG, which begins with the DEVICE_ID) locked, every front read of it that ever
+    -- answers 0 answers the words that were stored then
+    pub device : (m : Machine) → Right map m → (n : ℕ) → Digested map n → rightsOf (partition map n .kind) .front ≡ true → (l₁ l₂ : List Command)
+        → (storedDigest (partition map n) (after prims map l₁ m .lent .cells) ≡ 0 → ⊥)
+        → (a value : ℕ) → numberAt map a ≡ n → step prims map (FrontRead a) (after prims map (l₁ ++ PowerUp ∷ l₂) m) .result .answer ≡ Done value
+        → value ≡ granule (partition map n) (after prims map l₁ m .lent .cells) a
+
+    -- from a power-up on, what the life cycle words decode to only goes along the table, a stroke at a time
+    pub courses : (m : Machine) → Right map m → (l₁ l₂ : List Command)
+        → Course (lifeCycleIn prims map (after prims map (PowerUp ∷ l₁) m .lent)) (lifeCycleIn prims map (after prims map (PowerUp ∷ l₁ ++ l₂) m .lent))
+
+    -- a list without power-up and transition leaves the copy and the sensed digests as they were
+    pub sensing : (m : Machine) (l : List Command) → Quiet l
+        → (after prims map l m .lent .copy ≡ m .lent .copy) × (after prims map l m .session .sensed ≡ m .session .sensed)
+
+-- the stroke count never falls
+pub record Rising : Type 0 where
+  pub counts : (s n t k : ℕ) → Course (Valid s n) (Valid t k) → n ≤ k

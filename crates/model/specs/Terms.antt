@@ -1,0 +1,127 @@
+-- The terms in which the theorems over lists of commands are stated (document 01, 'Where the promises have to bite').
+use Prim.Native.Nat.{ℕ, _+_, _*_, _/_, _^_, _≤_, _<_}
+use mathlib.Core.Path.{_≡_}
+use mathlib.Core.Bool.{Bool, true, false, _&&_}
+use mathlib.Core.List.{List, [], _∷_}
+use lib.ListN.{length, getD}
+use Rattle.words.specs.declared.Programmed.the-variants as programmed
+use Rattle.words.specs.Words.{numberOf, wordsOf, partAt}
+use Rattle.words.specs.Programming.{programAnswer}
+use Rattle.partitions.specs.declared.Partition.{Partition}
+use Rattle.partitions.specs.Map.{Map, rightsOf, numberAt, partition, partitionAt, limit, inDigest, firstWord, wordCount}
+use Rattle.life_cycle.specs.Constants.{validConstants}
+use Rattle.model.specs.declared.Answer.{Answer}
+use Rattle.model.specs.declared.Answer.the-variants.{Done}
+use Rattle.model.specs.declared.Command.{Command}
+use Rattle.model.specs.declared.Command.the-variants.{Read, Write, FrontRead, Digest, ReadLock, Transition, PowerUp}
+use Rattle.model.specs.Answers.{codeOf}
+use Rattle.model.specs.Lent.{Lent, Machine, Primitives, rightLengths}
+use Rattle.model.specs.Commands.{scrambled, storedDigest}
+use Rattle.model.specs.Step.{Step, step, after}
+
+-- lent lengths right, constants valid and words of 16 bits; cells, copy and record are free
+pub record Right (map : Map) (m : Machine) : Type 0 where
+  pub lengths : rightLengths map (m .lent) ≡ true
+  pub valid : validConstants (m .lent .constants) ≡ true
+  pub words : (i : ℕ) → getD (m .lent .constants) i 0 < 65536
+
+-- what the theorems ask of the cipher, at keys of 128 bits and blocks of 64: a scrambled block fits, and unscrambling undoes scrambling
+pub record Cipher (prims : Primitives) : Type 0 where
+  pub fits : (key block : ℕ) → key < 2 ^ 128 → block < 2 ^ 64 → prims .encrypt key block < 2 ^ 64
+  pub back : (key block : ℕ) → key < 2 ^ 128 → block < 2 ^ 64 → prims .decrypt key (prims .encrypt key block) ≡ block
+
+-- a partition of the map that has a digest
+pub record Digested (map : Map) (n : ℕ) : Type 0 where
+  pub known : n < length map
+  pub direct : rightsOf (partition map n .kind) .direct ≡ true
+
+-- the words of partition n are the same in the cells c and d
+pub record SamePartition (map : Map) (n : ℕ) (c d : List ℕ) : Type 0 where
+  pub at : (j : ℕ) → partition map n .start ≤ 2 * j → 2 * j < partition map n .end → getD c j 0 ≡ getD d j 0
+
+-- equal where both lists have an entry
+abbrev pub Agree : {A : Type 0} → List A → List A → Type 0
+Agree [] l = Unit {0}
+Agree (a ∷ k) [] = Unit {0}
+Agree (a ∷ k) (b ∷ l) = (a ≡ b) × Agree k l
+
+-- Ready lasts "to the next power-up, whatever that answers, or to a transition that answers other than 0x11"
+abbrev pub staysReady : Command → Answer → Type 0
+staysReady (Read a) answer = Unit {0}
+staysReady (Write a value) answer = Unit {0}
+staysReady (FrontRead a) answer = Unit {0}
+staysReady (Digest a) answer = Unit {0}
+staysReady (ReadLock number) answer = Unit {0}
+staysReady (Transition target high low) answer = codeOf answer ≡ 0x11
+staysReady PowerUp answer = ⊥
+
+-- the command is no write to the granule of address a that answers 0
+abbrev pub spares : Map → ℕ → Command → Answer → Type 0
+spares map a (Write b value) answer = firstWord (partitionAt map b) b ≡ firstWord (partitionAt map a) a → codeOf answer ≡ 0x00 → ⊥
+spares map a (Read b) answer = Unit {0}
+spares map a (FrontRead b) answer = Unit {0}
+spares map a (Digest b) answer = Unit {0}
+spares map a (ReadLock number) answer = Unit {0}
+spares map a (Transition target high low) answer = Unit {0}
+spares map a PowerUp answer = Unit {0}
+
+-- the words that a write of a value stores, and the number of the value's words that it uses: all 64 bits, or the low half
+module _ (prims : Primitives) (map : Map) where
+  abbrev pub storedWords : List ℕ → ℕ → ℕ → List ℕ
+  storedWords constants a value =
+      let p = partitionAt map a in
+      wordsOf (wordCount p a) (scrambled prims map constants p value)
+
+abbrev pub usedValue : Map → ℕ → ℕ → ℕ
+usedValue map a value = numberOf (wordsOf (wordCount (partitionAt map a) a) value)
+
+module _ (prims : Primitives) (map : Map) where
+  -- Ready lasts through these commands
+  unfoldable pub Lasts : List Command → Machine → Type 0
+  Lasts [] m = Unit {0}
+  Lasts (x ∷ l) m = staysReady x (step prims map x m .result .answer) × Lasts l (step prims map x m .result .machine)
+
+  -- no write to the granule of a in these commands answers 0
+  unfoldable pub Spared : ℕ → List Command → Machine → Type 0
+  Spared a [] m = Unit {0}
+  Spared a (x ∷ l) m = spares map a x (step prims map x m .result .answer) × Spared a l (step prims map x m .result .machine)
+
+  -- on a chip whose last power-up found the cells c₀ and that holds c now, the rules allow this write: it gives neither 5 nor 4
+  pub record Allowed (constants c₀ c : List ℕ) (a value : ℕ) : Type 0 where
+    pub below : a < limit map
+    pub direct : rightsOf (partitionAt map a .kind) .direct ≡ true
+    pub notDigest : (rightsOf (partitionAt map a .kind) .hardware && inDigest (partitionAt map a) a) ≡ false
+    pub unlocked : storedDigest (partitionAt map a) c₀ ≡ 0
+    pub keeps : programAnswer c (firstWord (partitionAt map a) a) (storedWords prims map constants a value) ≡ programmed.Done
+
+  -- "It takes effect: it answers 0, its granule holds the data, scrambled where secret, and no other cell changes."
+  pub record TakesEffect (m : Machine) (a value : ℕ) (s : Step) : Type 0 where
+    pub done : s .result .answer ≡ Done 0
+    pub holds : partAt (s .result .machine .lent .cells) (firstWord (partitionAt map a) a) (wordCount (partitionAt map a) a) ≡ storedWords prims map (m .lent .constants) a value
+    pub others : (j : ℕ)
+        → (firstWord (partitionAt map a) a ≤ j → j < firstWord (partitionAt map a) a + wordCount (partitionAt map a) a → ⊥)
+        → getD (s .result .machine .lent .cells) j 0 ≡ getD (m .lent .cells) j 0
+
+  -- the verdicts and comparisons of two runs agree, "command by command, where both chips have one"
+  unfoldable pub Matched : List Command → Machine → Machine → Type 0
+  Matched [] m n = Unit {0}
+  Matched (x ∷ l) m n =
+      Agree (step prims map x m .compared) (step prims map x n .compared)
+      × Agree (step prims map x m .verdicts) (step prims map x n .verdicts)
+      × Matched l (step prims map x m .result .machine) (step prims map x n .result .machine)
+
+-- a secret partition with the same nonzero stored digest on both chips
+pub record Hidden (map : Map) (c d : List ℕ) (n : ℕ) : Type 0 where
+  pub known : n < length map
+  pub secret : rightsOf (partition map n .kind) .scrambled ≡ true
+  pub equal : storedDigest (partition map n) c ≡ storedDigest (partition map n) d
+  pub nonzero : storedDigest (partition map n) c ≡ 0 → ⊥
+
+-- a word in which the two chips may differ: a data word of such a partition
+pub record HiddenWord (map : Map) (c d : List ℕ) (j : ℕ) : Type 0 where
+  pub hidden : Hidden map c d (numberAt map (2 * j))
+  pub isData : inDigest (partitionAt map (2 * j)) (2 * j) ≡ false
+
+-- two chips' fuses differ only there
+pub record Alike (map : Map) (c₀ d₀ c d : List ℕ) : Type 0 where
+  pub at : (j : ℕ) → (HiddenWord map c₀ d₀ j → ⊥) → getD c j 0 ≡ getD d j 0
