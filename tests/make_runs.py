@@ -1,0 +1,226 @@
+#!/usr/bin/env python3
+"""Writes the bench runs under tests/runs/ from the descriptions below.
+
+Each run is a folder: `about` (one line: what it shows), `script.bin`, `image.bin` and `constants.bin` (left out where the run has none) and
+`expected`, the bytes that the bench program has to print. Expected lines that document 01 fixes are written here by hand; those of the long
+runs come from the independent program, which was written from the papers: pass its path. The program under test is never asked.
+
+usage: make_runs.py INDEPENDENT
+"""
+import os
+import shutil
+import subprocess
+import sys
+import tempfile
+
+HERE = os.path.dirname(os.path.abspath(__file__))
+
+
+def number(value, size):
+    return value.to_bytes(size, "little")
+
+
+def words(values):
+    return b"".join(number(v, 2) for v in values)
+
+
+# Records.
+def read(address):
+    return b"\x01" + number(address, 4)
+
+
+def write(address, data):
+    return b"\x02" + number(address, 4) + number(data, 8)
+
+
+def front(address):
+    return b"\x03" + number(address, 4)
+
+
+def digest(address):
+    return b"\x04" + number(address, 4)
+
+
+def lock(partition):
+    return b"\x05" + number(partition, 1)
+
+
+def move(target, token=0):
+    return b"\x06" + number(target, 1) + number(token, 16)
+
+
+UP = b"\x07"
+
+# Constants: keys, start value and final key by a simple rule; pairs that are valid; the hashed RAW token.
+RAW_TOKEN = 0x0F1E2D3C4B5A69788796A5B4C3D2E1F0
+TEST_UNLOCK = 0x11112222333344445555666677778888
+TEST_EXIT = 0x9999AAAABBBBCCCCDDDDEEEEFFFF0001
+RMA_TOKEN = 0x0123456789ABCDEFFEDCBA9876543210
+
+
+def constants():
+    keys = [(0x1357 * (i + 1)) % 65536 for i in range(36)]
+    c = [0x0101 + 2 * i for i in range(24)]
+    d = [v | 0x8000 for v in c]
+    a = [0x0203 + 4 * i for i in range(20)]
+    b = [v | 0x5000 for v in a]
+    return keys + c + d + a + b + [(RAW_TOKEN >> (16 * i)) % 65536 for i in range(8)]
+
+
+def with_word(values, at, value):
+    return values[:at] + [value] + values[at + 1 :]
+
+
+BLANK = [0] * 448
+GOOD = constants()
+
+
+def life(count, state_words):
+    k = GOOD
+    counter = [k[60 + i] if i < count else k[36 + i] for i in range(24)] if count else [0] * 24
+    return [0] * 404 + counter + state_words
+
+
+def state(number_of_state):
+    k = GOOD
+    has = {
+        16: set(range(16)),
+        17: set(range(15)) | {16},
+        18: set(range(15)) | {17},
+        19: set(range(17)) | {18},
+        20: set(range(20)),
+    }.get(number_of_state, set(range(number_of_state)))
+    return [0] * 20 if number_of_state == 0 else [k[104 + i] if i in has else k[84 + i] for i in range(20)]
+
+
+def lines(*answers):
+    """Lines from (kind, code, value), and the end line."""
+    text = "".join("%02x %02x %016x\n" % a for a in answers)
+    return (text + "end %d\n" % len(answers)).encode()
+
+
+RUNS = []
+
+
+def run(name, about, script, expected=None, image=BLANK, consts=GOOD):
+    """A run; image and consts are words, bytes, or None for no file. With no expected lines the independent program is asked."""
+    as_bytes = lambda x: x if x is None or isinstance(x, bytes) else words(x)
+    RUNS.append((name, about, script, as_bytes(image), as_bytes(consts), expected))
+
+
+# ---- the document's example, and scripts that end at once
+EXAMPLE = UP + write(0, 0x12345678) + read(0) + read(0x328)
+EXAMPLE_LINES = lines((7, 0, 0), (2, 0, 0), (1, 0, 0x12345678), (1, 5, 0))
+run("example", "the example of document 01", EXAMPLE, EXAMPLE_LINES)
+run("empty_script", "an empty script prints the end line alone", b"", b"end 0\n")
+run("off", "before a power-up every command answers 7", read(0) + write(0, 1) + front(0x200) + digest(0x200) + lock(0) + move(1),
+    lines((1, 7, 0), (2, 7, 0), (3, 7, 0), (4, 7, 0), (5, 7, 0), (6, 7, 0)))
+
+# ---- lengths and constants
+WRONG = lines((7, 0x10, 0), (2, 0x10, 0), (1, 0x10, 0), (1, 0x10, 0))
+run("no_files", "missing files count as empty: 0x10 on each line", EXAMPLE, WRONG, None, None)
+run("no_image", "a missing image: 0x10 on each line", EXAMPLE, WRONG, None)
+run("no_constants", "missing constants: 0x10 on each line", EXAMPLE, WRONG, BLANK, None)
+run("image_a_byte_short", "an image of 895 bytes", EXAMPLE, WRONG, words(BLANK)[:-1])
+run("image_a_byte_long", "an image of 897 bytes", EXAMPLE, WRONG, words(BLANK) + b"\0")
+run("image_a_word_short", "an image of 447 words", EXAMPLE, WRONG, BLANK[:-1])
+run("image_a_word_long", "an image of 449 words", EXAMPLE, WRONG, BLANK + [0])
+run("image_far_too_long", "an image of 20,000 bytes", EXAMPLE, WRONG, b"\0" * 20000)
+run("constants_a_byte_short", "constants of 263 bytes", EXAMPLE, WRONG, BLANK, words(GOOD)[:-1])
+run("constants_a_byte_long", "constants of 265 bytes", EXAMPLE, WRONG, BLANK, words(GOOD) + b"\0")
+run("constants_a_word_long", "constants of 133 words", EXAMPLE, WRONG, BLANK, GOOD + [0])
+INVALID = lines((7, 0x12, 0), (2, 0x12, 0), (1, 0x12, 0), (1, 0x12, 0))
+run("c_is_zero", "a C that is zero: 0x12 on each line", EXAMPLE, INVALID, BLANK, with_word(GOOD, 36, 0))
+run("c_equals_d", "the last C equals its D", EXAMPLE, INVALID, BLANK, with_word(GOOD, 59, GOOD[83]))
+run("c_has_a_bit_that_d_lacks", "a C with a bit that its D lacks", EXAMPLE, INVALID, BLANK, with_word(GOOD, 40, GOOD[40] | 0x0800))
+run("a_is_zero", "the last A is zero", EXAMPLE, INVALID, BLANK, with_word(GOOD, 103, 0))
+run("b_equals_a", "a B that equals its A", EXAMPLE, INVALID, BLANK, with_word(GOOD, 104, GOOD[84]))
+run("length_before_constants", "0x10 comes before 0x12", EXAMPLE, WRONG, BLANK[:-1], with_word(GOOD, 36, 0))
+run("constants_before_phase", "0x12 comes before 0x07", read(0), lines((1, 0x12, 0)), BLANK, with_word(GOOD, 36, 0))
+
+# ---- the reader
+run("kind_0", "kind 0 is unknown: the line has the kind byte and its place, then the end line", UP + b"\x00" + read(0), lines((7, 0, 0), (0, 0x11, 1)))
+run("kind_8", "kind 8 is unknown", UP + read(0) + b"\x08", lines((7, 0, 0), (1, 0, 0), (8, 0x11, 6)))
+run("kind_255", "kind 255 is unknown", b"\xff", lines((255, 0x11, 0)))
+for kind, whole in ((1, read(0)), (2, write(0, 0)), (3, front(0)), (4, digest(0)), (5, lock(0)), (6, move(1))):
+    run("cut_kind_%d" % kind, "a record of kind %d cut by its last byte" % kind, UP + whole[:-1], lines((7, 0, 0), (kind, 0x13, 1)))
+    run("cut_kind_%d_at_once" % kind, "a record of kind %d with no body" % kind, UP + whole[:1], lines((7, 0, 0), (kind, 0x13, 1)))
+run("cut_on_a_wrong_image", "the reader comes before the command", UP + b"\x01", lines((7, 0x10, 0), (1, 0x13, 1)), None)
+run("longest_script", "65,536 bytes run", UP + read(0) * 13107, lines((7, 0, 0), *[(1, 0, 0)] * 13107))
+run("too_long_script", "65,537 bytes: one line 0x14 and nothing runs", UP + read(0) * 13107 + UP, b"00 14 0000000000000000\nend 1\n")
+
+# ---- the 14 cases
+CASES = [
+    ("blank power-up", UP, lines((7, 0, 0)), BLANK),
+    ("blank reads at both ends of direct access", UP + read(0x327) + read(0x328) + read(0x37F) + read(0x380), lines((7, 0, 0), (1, 0, 0), (1, 5, 0), (1, 5, 0), (1, 5, 0)), BLANK),
+    ("a write at 3 acts at 0", UP + write(3, 0x55) + read(0), lines((7, 0, 0), (2, 0, 0), (1, 0, 0x55)), BLANK),
+    ("0x0F, then 0xF0, then 0xFF at 0", UP + write(0, 0x0F) + write(0, 0xF0) + write(0, 0xFF), lines((7, 0, 0), (2, 0, 0), (2, 4, 0), (2, 0, 0)), BLANK),
+    ("a write at a hardware digest", UP + write(0x248, 1), lines((7, 0, 0), (2, 5, 0)), BLANK),
+    ("digest commands at no start of 2 to 5", UP + digest(0x000) + digest(0x204), lines((7, 0, 0), (4, 5, 0), (4, 5, 0)), BLANK),
+    ("a written digest locks from the next power-up", UP + write(0x0F8, 1) + write(0x004, 1) + UP + write(0x004, 3), lines((7, 0, 0), (2, 0, 0), (2, 0, 0), (7, 0, 0), (2, 5, 0)), BLANK),
+    ("a read lock hides data and not the digest", UP + lock(0) + read(0x000) + read(0x0F8), lines((7, 0, 0), (5, 0, 0), (1, 5, 0), (1, 0, 0)), BLANK),
+    ("RAW to state 1, then only a power-up", UP + move(1, RAW_TOKEN) + read(0) + write(0, 0) + front(0x200) + digest(0x200) + lock(0) + move(1, RAW_TOKEN) + UP,
+     lines((7, 0, 0), (6, 0, 0), (1, 7, 0), (2, 7, 0), (3, 7, 0), (4, 7, 0), (5, 7, 0), (6, 7, 0), (7, 0, 257)), BLANK),
+    ("a wrong token", UP + move(1, RAW_TOKEN ^ 1) + UP, lines((7, 0, 0), (6, 0x23, 0), (7, 0, 256)), BLANK),
+    ("RAW to DEV", UP + move(16, RAW_TOKEN) + UP, lines((7, 0, 0), (6, 0x21, 0), (7, 0, 256)), BLANK),
+    ("24 strokes used", UP + move(20) + UP, lines((7, 0, 6144), (6, 0x20, 0), (7, 0, 6144)), life(24, state(0))),
+    ("a token's partition that is open", UP + move(1, RAW_TOKEN) + UP + move(2) + UP + move(3), lines((7, 0, 0), (6, 0, 0), (7, 0, 257), (6, 0, 0), (7, 0, 514), (6, 0x22, 0)), BLANK),
+    ("DEVICE_ID: the front read is old until a power-up", UP + write(0x200, 0x99) + front(0x200) + read(0x200) + UP + front(0x200) + read(0x200),
+     lines((7, 0, 0), (2, 0, 0), (3, 0, 0), (1, 0, 0x99), (7, 0, 0), (3, 0, 0x99), (1, 0, 0x99)), BLANK),
+]
+for i, (about, script, expected, image) in enumerate(CASES):
+    run("case_%02d" % (i + 1), "case %d: %s" % (i + 1, about), script, expected, image)
+
+# ---- targets
+run("target_21", "a target above 20 answers 0x11 and leaves Ready", UP + move(21, RAW_TOKEN) + read(0), lines((7, 0, 0), (6, 0x11, 0), (1, 0, 0)))
+run("addresses_at_edges", "reads, writes and front reads at both sides of every edge of the map",
+    UP + b"".join(read(a + d) + front(a + d) + write(a + d, 1) for a in (0, 0xF8, 0x100, 0x1F8, 0x200, 0x248, 0x250, 0x270, 0x278, 0x2C8, 0x2D0, 0x320, 0x328, 0x380) for d in (-4, -1, 0, 3) if a + d >= 0) + read(0xFFFFFFFF))
+
+# ---- a full provisioning
+TOKENS = (write(0x250, TEST_UNLOCK % 2**64) + write(0x258, TEST_UNLOCK >> 64) + write(0x260, TEST_EXIT % 2**64) + write(0x268, TEST_EXIT >> 64)
+          + write(0x2D0, RMA_TOKEN % 2**64) + write(0x2D8, RMA_TOKEN >> 64))
+FILL = (b"".join(write(a, 0x01010101 * (a % 251) + a) for a in range(0, 0xF8, 4)) + b"".join(write(a, 0x10001 * a) for a in range(0x100, 0x1F8, 4))
+        + b"".join(write(a, 0xD00D0000 + a) for a in range(0x200, 0x248, 4)) + TOKENS
+        + b"".join(write(a, 0x0123456789ABCDEF ^ a) for a in range(0x278, 0x2C8, 8)) + b"".join(write(a, 0xFEDCBA9876543210 ^ a) for a in range(0x2E0, 0x320, 8)))
+DIGESTS = digest(0x200) + digest(0x250) + digest(0x278) + digest(0x2D0) + write(0x0F8, 0xC0DE) + write(0x0FC, 1) + write(0x1F8, 2) + write(0x1FC, 0xFEED)
+SHOW = b"".join(read(a) for a in range(0, 0x380, 0x24)) + b"".join(front(a) for a in range(0x200, 0x220, 4)) + read(0x248) + read(0x270) + read(0x320)
+TRY = b"".join(write(a, 0xFFFFFFFFFFFFFFFF) + digest(a) for a in (0, 0x100, 0x200, 0x250, 0x278, 0x2D0))
+run("provisioning", "all partitions written, digests, a power-up; then locked reads and writes, and front reads of the DEVICE_ID", UP + FILL + SHOW + DIGESTS + SHOW + UP + SHOW + TRY + lock(0) + lock(1) + lock(2) + SHOW)
+
+# ---- a life cycle course, and every stroke
+COURSE = (UP + FILL + digest(0x250) + digest(0x2D0) + UP + move(1, RAW_TOKEN ^ 1) + UP + move(1, RAW_TOKEN) + UP + move(2) + UP + move(3, TEST_UNLOCK ^ (1 << 127)) + UP
+          + move(3, TEST_UNLOCK) + UP + move(16, TEST_UNLOCK) + UP + move(16, TEST_EXIT) + UP + move(19, TEST_EXIT) + UP + move(19, RMA_TOKEN) + UP + move(16) + UP + move(20) + UP + read(0) + UP)
+run("life_cycle_course", "RAW through TEST, DEV and RMA to SCRAP, with right and wrong tokens", COURSE)
+run("all_strokes", "24 strokes spent on wrong tokens, then 0x20", UP + (move(1, 5) + UP) * 26)
+
+# ---- power-ups that fail
+run("invalid_life_cycle", "a state word that is neither A nor B: 7 with 0xFFFF", UP + read(0) + UP, lines((7, 7, 0xFFFF), (1, 7, 0), (7, 7, 0xFFFF)), with_word(life(3, state(5)), 440, 0x7777))
+run("count_0_with_a_state", "count 0 with a state other than RAW: 7 with 0xFFFF", UP, lines((7, 7, 0xFFFF)), [0] * 428 + state(1))
+run("scrap", "SCRAP: 7 with 256 times count plus state", UP + move(20), lines((7, 7, 256 * 9 + 20), (6, 7, 0)), life(9, state(20)))
+for partition, (digest_word, start) in {2: (292, 0x200), 3: (312, 0x250), 4: (356, 0x278), 5: (400, 0x2D0)}.items():
+    run("damaged_digest_%d" % partition, "a stored digest of partition %d that does not match: 6" % partition, UP + read(0) + write(start, 1),
+        lines((7, 6, partition), (1, 7, 0), (2, 7, 0)), with_word(BLANK, digest_word, 0x4242))
+run("digest_before_life_cycle", "the digest check comes before the life cycle", UP, lines((7, 6, 2)), with_word(with_word(BLANK, 440, 0x7777), 292, 1))
+
+
+def main():
+    independent = os.path.abspath(sys.argv[1])
+    shutil.rmtree(os.path.join(HERE, "runs"), ignore_errors=True)
+    for name, about, script, image, consts, expected in RUNS:
+        folder = os.path.join(HERE, "runs", name)
+        os.makedirs(folder)
+        files = {"script.bin": script, "image.bin": image, "constants.bin": consts, "about": about.encode() + b"\n"}
+        for file, data in files.items():
+            if data is not None:
+                with open(os.path.join(folder, file), "wb") as f:
+                    f.write(data)
+        answer = subprocess.run([independent, "bench"], cwd=folder, input=script, stdout=subprocess.PIPE, check=True).stdout
+        if expected is not None and expected != answer:
+            sys.exit("%s: the paper's lines and the independent program's differ" % name)
+        with open(os.path.join(folder, "expected"), "wb") as f:
+            f.write(answer if expected is None else expected)
+    print("%d runs" % len(RUNS))
+
+
+if __name__ == "__main__":
+    main()
