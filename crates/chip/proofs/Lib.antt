@@ -1,1 +1,4 @@
 pub mod Judging
+pub mod Admission
+pub mod Reading
+pub mod Acting

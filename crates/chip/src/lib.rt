@@ -1,11 +1,34 @@
-// What every command does first: it judges what it is lent.
+// What commands share: they judge what they are lent, and find keys and digests in it.
 use model::Answer;
+use model::Phase;
+use model::Session;
+use partitions::Kind;
+use partitions::Partition;
 use partitions::WORDS;
 ghost use mathlib.Core.Path.{_≡_};
+ghost use Prim.Native.Nat.{_+_, _*_, _^_};
+ghost use Rattle.words.specs.Words.{numberOf, partAt};
+ghost use Rattle.digest.specs.Digest.{digestWords};
+ghost use Rattle.partitions.specs.Map1.{map1};
+ghost use Rattle.model.specs.Lent.{keyOf, digestStart, digestFinal};
+ghost use Rattle.model.specs.Commands.{storedDigest, scrambled, unscrambled};
+ghost use Rattle.chip.specs.Chip.{primitives};
 ghost use Rattle.chip.specs.Judging.{judgedOf};
+ghost use Rattle.chip.specs.Admission.{admittedOf};
 
 // The number of constant words.
 pub const CONSTANTS: usize = 132;
+
+// Where keys and the values of the digest stand among the constants.
+const SECRET0_KEY: usize = 0;
+
+const SECRET1_KEY: usize = 8;
+
+const SECRET2_KEY: usize = 16;
+
+const DIGEST_START: usize = 24;
+
+const DIGEST_FINAL: usize = 28;
 
 // What is lent is accepted, or refused with an answer.
 pub enum Judged {
@@ -30,4 +53,108 @@ pub fn judge(cells: usize, copy: usize, constants: &[u16]) -> Judged
         return Judged::Refused(Answer::InvalidConstants);
     }
     Judged::Accepted
+}
+
+// What every command but power-up tests first: what is lent, then the phase.
+pub fn admit(cells: usize, copy: usize, constants: &[u16], session: Session) -> Judged
+    ensures { λ r. ⌜ r ≡ admittedOf cells copy (now (constants .entry)) (session .phase) ⌝ }
+{
+    match judge(cells, copy, constants) {
+        Judged::Refused(answer) => Judged::Refused(answer),
+        Judged::Accepted => {
+            let phase = session.phase;
+            match phase {
+                Phase::Off => Judged::Refused(Answer::NotReady),
+                Phase::Ready => Judged::Accepted,
+                Phase::Inert => Judged::Refused(Answer::NotReady),
+                Phase::Dead(_) => Judged::Refused(Answer::NotReady),
+            }
+        }
+    }
+}
+
+// A number of 128 bits by its high and its low 64 bits.
+pub struct Halves {
+    pub high: u64,
+    pub low: u64,
+}
+
+// The number of the four words from `at` on, zeros past the last word.
+fn four_words(words: &[u16], at: usize) -> u64
+    ensures { λ r. ⌜ r ≡ numberOf (partAt (now (words .entry)) at 4) ⌝ }
+{
+    if at < words.len() {
+        words::join(&words[at..])
+    } else {
+        0
+    }
+}
+
+// The number of the eight words from `at` on, zeros past the last word.
+pub fn eight_words(words: &[u16], at: usize) -> Halves
+    ensures { λ r. ⌜ r .high * 2 ^ 64 + r .low ≡ numberOf (partAt (now (words .entry)) at 8) ⌝ }
+{
+    if words.len() <= at {
+        return Halves { high: 0, low: 0 };
+    }
+    Halves {
+        high: four_words(words, at + 4),
+        low: four_words(words, at),
+    }
+}
+
+// The key of a kind. Only the secrets have one.
+pub fn key_of(constants: &[u16], kind: Kind) -> Halves
+    ensures { λ r. ⌜ r .high * 2 ^ 64 + r .low ≡ keyOf (now (constants .entry)) kind ⌝ }
+{
+    match kind {
+        Kind::Software => Halves { high: 0, low: 0 },
+        Kind::HwCfg => Halves { high: 0, low: 0 },
+        Kind::Secret0 => eight_words(constants, SECRET0_KEY),
+        Kind::Secret1 => eight_words(constants, SECRET1_KEY),
+        Kind::Secret2 => eight_words(constants, SECRET2_KEY),
+        Kind::LifeCycle => Halves { high: 0, low: 0 },
+    }
+}
+
+// A block as a partition stores it.
+pub fn scrambled(constants: &[u16], partition: Partition, block: u64) -> u64
+    ensures { λ r. ⌜ r ≡ scrambled primitives map1 (now (constants .entry)) partition block ⌝ }
+{
+    let kind = partition.kind;
+    let rights = kind.rights();
+    if !rights.scrambled {
+        return block;
+    }
+    let key = key_of(constants, kind);
+    present::encrypt(key.high, key.low, block)
+}
+
+// A block that a partition stored, in the clear.
+pub fn unscrambled(constants: &[u16], partition: Partition, block: u64) -> u64
+    ensures { λ r. ⌜ r ≡ unscrambled primitives map1 (now (constants .entry)) partition block ⌝ }
+{
+    let kind = partition.kind;
+    let rights = kind.rights();
+    if !rights.scrambled {
+        return block;
+    }
+    let key = key_of(constants, kind);
+    present::decrypt(key.high, key.low, block)
+}
+
+// The digest that a partition stores.
+pub fn stored_digest(cells: &[u16], partition: Partition) -> u64
+    ensures { λ r. ⌜ r ≡ storedDigest partition (now (cells .entry)) ⌝ }
+{
+    four_words(cells, partition.digest / 2)
+}
+
+// The digest of data words, from the start value and the final key of the constants.
+pub fn digest_of(constants: &[u16], data: &[u16]) -> u64
+    ensures { λ r. ⌜ r ≡ digestWords (digestStart (now (constants .entry))) (digestFinal (now (constants .entry))) (now («data» .entry)) ⌝ }
+{
+    let start = four_words(constants, DIGEST_START);
+    let key = eight_words(constants, DIGEST_FINAL);
+    digest::digest(start, key.high, key.low, data)
 }

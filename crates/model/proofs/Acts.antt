@@ -30,7 +30,7 @@ perform-kept (program at words turn next) copy cells =
     after-both (λ (r : Performed). Kept cells (r .cells)) (programAnswer cells at words) _ _
     (λ e. kept-trans (program-kept cells words at) (perform-kept next copy (programCells cells at words))) (λ cell e. kept-refl)
 perform-kept (compare test same other) copy cells =
-    if-both (λ (r : Performed). Kept cells (r .cells)) (test copy) _ _ (λ e. perform-kept same copy cells) (λ e. perform-kept other copy cells)
+    if-both (λ (r : Performed). Kept cells (r .cells)) _ _ _ (λ e. perform-kept same copy cells) (λ e. perform-kept other copy cells)
 
 pub perform-length : (x : Act) (copy cells : List ℕ) → length (perform x copy cells .cells) ≡ length cells
 unfolding perform noting
@@ -39,7 +39,7 @@ perform-length (program at words turn next) copy cells =
     after-both (λ (r : Performed). length (r .cells) ≡ length cells) (programAnswer cells at words) _ _
     (λ e. perform-length next copy (programCells cells at words) ∙ program-length cells words at) (λ cell e. refl)
 perform-length (compare test same other) copy cells =
-    if-both (λ (r : Performed). length (r .cells) ≡ length cells) (test copy) _ _ (λ e. perform-length same copy cells) (λ e. perform-length other copy cells)
+    if-both (λ (r : Performed). length (r .cells) ≡ length cells) _ _ _ (λ e. perform-length same copy cells) (λ e. perform-length other copy cells)
 
 -- ---- the frame
 
@@ -65,7 +65,7 @@ perform-frame (programs {at = at} {words = words} inside next) copy cells j h =
     after-both (λ (r : Performed). getD (r .cells) j 0 ≡ getD cells j 0) (programAnswer cells at words) _ _
     (λ e. perform-frame next copy (programCells cells at words) j h ∙ program-elsewhere cells words at j (λ l u. h (inside j l u))) (λ cell e. refl)
 perform-frame (compares {test = test} same other) copy cells j h =
-    if-both (λ (r : Performed). getD (r .cells) j 0 ≡ getD cells j 0) (test copy) _ _ (λ e. perform-frame same copy cells j h) (λ e. perform-frame other copy cells j h)
+    if-both (λ (r : Performed). getD (r .cells) j 0 ≡ getD cells j 0) _ _ _ (λ e. perform-frame same copy cells j h) (λ e. perform-frame other copy cells j h)
 
 -- ---- the answers that an act may give, with the turns that go with them
 
@@ -83,4 +83,4 @@ perform-gives (Gives.says h) copy cells = h
 perform-gives {T} (Gives.programs {at = at} {words = words} refused next) copy cells =
     after-both (λ (r : Performed). T (r .answer) (r .turn)) (programAnswer cells at words) _ _ (λ e. perform-gives next copy (programCells cells at words)) (λ cell e. refused cell)
 perform-gives {T} (Gives.compares {test = test} same other) copy cells =
-    if-both (λ (r : Performed). T (r .answer) (r .turn)) (test copy) _ _ (λ e. perform-gives same copy cells) (λ e. perform-gives other copy cells)
+    if-both (λ (r : Performed). T (r .answer) (r .turn)) _ _ _ (λ e. perform-gives same copy cells) (λ e. perform-gives other copy cells)

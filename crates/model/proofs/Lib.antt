@@ -8,4 +8,6 @@ pub mod Chips
 pub mod Strokes
 pub mod Device
 pub mod Theorems
+pub mod Everything
 pub mod Cases
+pub mod Examples

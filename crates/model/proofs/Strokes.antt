@@ -136,7 +136,7 @@ module _ (prims : Primitives) (map : Map) (F : fit map ≡ true) (m : Machine) (
     compared-ok : {token : Token} → transition (m .session .state) target ≡ Allowed token → (test : List ℕ → Bool) (answer : Answer) → T (not (eqb (codeOf answer) 0x04))
         → Ok (perform (compare test (moveAct prims map m target) (say answer halt)) (m .lent .copy) cells₁)
     unfolding perform
-    compared-ok a test answer t = noted prims map m target _ _ (if-both Ok (test (m .lent .copy)) _ _ (λ e. move-ok a) (λ e. said answer t))
+    compared-ok a test answer t = noted prims map m target _ _ (if-both Ok _ _ _ (λ e. move-ok a) (λ e. said answer t))
 
     locked-ok : (token : Token) (given : ℕ) → transition (m .session .state) target ≡ Allowed token
         → Ok (perform (lockedTokenAct prims map m token target given) (m .lent .copy) cells₁)

@@ -171,10 +171,11 @@ module _ (prims : Primitives) (C : Cipher prims) (map : Map) (F : fit map ≡ tr
   none-programmed : (m : Machine) (a : ℕ)
       → Within (λ j. ⊥) (readyAct prims map m (Read a)) × Within (λ j. ⊥) (readyAct prims map m (FrontRead a)) × Within (λ j. ⊥) (readyAct prims map m (ReadLock a))
   unfolding readyAct commandAct readAct frontReadAct readLockAct
-  none-programmed m a =
-      (within-if (λ t. says) λ t. within-if (λ t. says) λ t. within-if (λ t. says) λ t. within-if (λ t. says) λ t. within-if (λ t. says) λ t. within-if (λ t. says) λ t. says,
-      within-if (λ t. says) λ t. within-if (λ t. says) λ t. within-if (λ t. says) λ t. within-if (λ t. says) λ t. says,
-      within-if (λ t. says) λ t. within-if (λ t. says) λ t. says)
+  none-programmed m a = (
+    within-if (λ t. says) λ t. within-if (λ t. says) λ t. within-if (λ t. says) λ t. within-if (λ t. says) λ t. within-if (λ t. says) λ t. within-if (λ t. says) λ t. says,
+    within-if (λ t. says) λ t. within-if (λ t. says) λ t. within-if (λ t. says) λ t. within-if (λ t. says) λ t. says,
+    within-if (λ t. says) λ t. within-if (λ t. says) λ t. says,
+  )
 
   seal : (a j : ℕ) → a < limit map → rightsOf (partitionAt map a .kind) .hardware ≡ true
       → partitionAt map a .digest / 2 ≤ j → j < partitionAt map a .digest / 2 + 4 → Sealed j

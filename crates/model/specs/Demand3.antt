@@ -24,12 +24,10 @@ module _ (prims : Primitives) (map : Map) where
   pub record Demand3 : Type 0 where
     -- every bit ever programmed still is, at every later point of the list
     pub bits : (m : Machine) (l₁ l₂ : List Command) → Kept (after prims map l₁ m .lent .cells) (after prims map (l₁ ++ l₂) m .lent .cells)
-
     -- a partition whose stored digest was nonzero at a power-up of the list has not changed since, whatever that power-up answered
     pub locks : (m : Machine) → Right map m → (n : ℕ) → Digested map n → (l₁ l₂ : List Command)
         → (storedDigest (partition map n) (after prims map l₁ m .lent .cells) ≡ 0 → ⊥)
         → SamePartition map n (after prims map l₁ m .lent .cells) (after prims map (l₁ ++ PowerUp ∷ l₂) m .lent .cells)
-
     -- a write that the rules allow on a Ready chip takes effect; and each read of its granule answers 0 and the data used, while Ready lasts
     -- and no other write to the granule answers 0, unless it reads data of a read-locked partition
     pub writes : (m : Machine) → Right map m → (l₀ l₁ : List Command) → Ready m l₀ l₁ → (a value : ℕ) → value < 2 ^ 64
@@ -43,7 +41,6 @@ module _ (prims : Primitives) (map : Map) where
         (b : ℕ) → b < limit map → firstWord (partitionAt map b) b ≡ firstWord (partitionAt map a) a
         → (inDigest (partitionAt map b) b ≡ false → readLocked (m₂ .session) (numberAt map b) ≡ false)
         → step prims map (Read b) m₂ .result .answer ≡ Done (usedValue map a value))
-
     -- two chips that differ only in data words of secret partitions with the same nonzero stored digests: where their verdicts and token
     -- comparisons agree, every answer is equal and they still differ only there
     pub chips : (m n : Machine) → Right map m → Right map n → m .session ≡ n .session → m .lent .constants ≡ n .lent .constants
@@ -52,7 +49,6 @@ module _ (prims : Primitives) (map : Map) where
         → (answers prims map (PowerUp ∷ l) m ≡ answers prims map (PowerUp ∷ l) n)
         × (after prims map (PowerUp ∷ l) m .session ≡ after prims map (PowerUp ∷ l) n .session)
         × Alike map (m .lent .cells) (n .lent .cells) (after prims map (PowerUp ∷ l) m .lent .cells) (after prims map (PowerUp ∷ l) n .lent .cells)
-
     -- a transition in such a list never answers 4
     pub strokes : (m : Machine) → Right map m → (l : List Command) (target high low : ℕ)
         → codeOf (step prims map (Transition target high low) (after prims map (PowerUp ∷ l) m) .result .answer) ≡ 0x04 → ⊥

@@ -85,7 +85,11 @@ impl Session {
     pub fn read_locked(self, number: usize) -> bool
         ensures { λ r. ⌜ r ≡ readLocked self number ⌝ }
     {
-        if number < 2 { self.locks[number] } else { false }
+        if number < 2 {
+            self.locks[number]
+        } else {
+            false
+        }
     }
 }
 

@@ -1,0 +1,123 @@
+-- A command but power-up is decided as an act, and performed. The idea: once a command is admitted, its result is what its act
+-- comes to, and an act is taken apart by what it says, programs or compares.
+use mathlib.Core.Path.{_≡_, refl, sym, ap, _∙_}
+use mathlib.Core.Bool.{Bool, true, false, not}
+use mathlib.Core.List.{List}
+use Prim.Native.Nat.{ℕ}
+use lib.ListN.{length}
+use Rattle.basics.proofs.Choice.{by-cases, if-true, if-false}
+use Rattle.words.specs.declared.Programmed.the-variants as programmed
+use Rattle.words.specs.Programming.{programAnswer, programCells}
+use Rattle.partitions.specs.Map1.{map1}
+use Rattle.model.specs.declared.Answer.{Answer}
+use Rattle.model.specs.declared.Answer.the-variants.{Cleared, NotReady}
+use Rattle.model.specs.declared.Command.{Command}
+use Rattle.model.specs.declared.Command.the-variants.{Read, Write, FrontRead, Digest, ReadLock, Transition, PowerUp}
+use Rattle.model.specs.Session.{isReady}
+use Rattle.model.specs.Lent.{Machine}
+use Rattle.model.specs.Acts.{Turn, stay, turned, Act, refuse, say, program, compare, afterProgram, noting, Performed, perform}
+use Rattle.model.specs.Commands.{commandAct, readyAct}
+use Rattle.model.specs.Step.{Result, Step, performed, act, obey}
+use Rattle.chip.specs.declared.Judged.{Judged}
+use Rattle.chip.specs.declared.Judged.the-variants.{Accepted, Refused}
+use Rattle.chip.specs.Chip.{primitives, machineOf, resultFor}
+use Rattle.chip.specs.Judging.{judgedOf}
+use Rattle.chip.specs.Admission.{admittedOf}
+use Rattle.chip.proofs.Judging.{accepted-step, refused-step}
+use Rattle.chip.proofs.Admission.{by-judged, accepted-not-refused, not-accepted, phase-not-ready, phase-ready, admitted}
+
+-- the judgement of what a machine is lent
+abbrev pub judged : Machine → Judged
+judged m = judgedOf (length (m .lent .cells)) (length (m .lent .copy)) (m .lent .constants)
+
+-- and its admission
+abbrev pub admission : Machine → Judged
+admission m = admittedOf (length (m .lent .cells)) (length (m .lent .copy)) (m .lent .constants) (m .session .phase)
+
+-- what an act comes to on a machine
+pub comesTo : Act → Machine → Result
+comesTo a m = performed primitives map1 (perform a (m .lent .copy) (m .lent .cells)) m .result
+
+-- every command but power-up
+abbrev pub Acting : Command → Type 0
+Acting (Read a) = Unit {0}
+Acting (Write a value) = Unit {0}
+Acting (FrontRead a) = Unit {0}
+Acting (Digest a) = Unit {0}
+Acting (ReadLock number) = Unit {0}
+Acting (Transition target high low) = Unit {0}
+Acting PowerUp = ⊥
+
+obeyed : (x : Command) (m : Machine) → Acting x → obey primitives map1 x m ≡ act primitives map1 x m
+unfolding obey
+obeyed (Read a) m h = refl
+obeyed (Write a value) m h = refl
+obeyed (FrontRead a) m h = refl
+obeyed (Digest a) m h = refl
+obeyed (ReadLock number) m h = refl
+obeyed (Transition target high low) m h = refl
+obeyed PowerUp m h = absurd h
+
+-- ---- an act, by what it is
+
+module _ (m : Machine) where
+  pub said : (a : Answer) (t : Turn)
+      → comesTo (say a t) m ≡ record { machine = machineOf (m .lent .cells) (m .lent .copy) (m .lent .constants) (turned t (m .session)); answer = a }
+  unfolding comesTo performed perform
+  said a t = refl
+
+  module _ (at : ℕ) (ws : List ℕ) (t : Turn) (next : Act) where
+    pub program-done : programAnswer (m .lent .cells) at ws ≡ programmed.Done
+        → comesTo (program at ws t next) m ≡ comesTo next (machineOf (programCells (m .lent .cells) at ws) (m .lent .copy) (m .lent .constants) (m .session))
+    unfolding comesTo performed perform afterProgram
+    program-done e = rw e
+
+    pub program-refused : (i : ℕ) → programAnswer (m .lent .cells) at ws ≡ programmed.Refused i → comesTo (program at ws t next) m ≡ comesTo (say (Cleared i) t) m
+    unfolding comesTo performed perform afterProgram
+    program-refused i e = rw e
+
+  -- a comparison is noted, and changes nothing
+  noted : (b : Bool) (r : Performed) → performed primitives map1 (noting b r) m .result ≡ performed primitives map1 r m .result
+  unfolding performed noting
+  noted b r = refl
+
+  module _ (test : List ℕ → Bool) (same other : Act) where
+    pub compare-same : test (m .lent .copy) ≡ true → comesTo (compare test same other) m ≡ comesTo same m
+    unfolding comesTo perform
+    compare-same e = noted _ _ ∙ ap (λ (r : Performed). performed primitives map1 r m .result) (if-true _ _ e)
+
+    pub compare-other : test (m .lent .copy) ≡ false → comesTo (compare test same other) m ≡ comesTo other m
+    unfolding comesTo perform
+    compare-other e = noted _ _ ∙ ap (λ (r : Performed). performed primitives map1 r m .result) (if-false _ _ e)
+
+-- ---- a command, by its admission
+
+module _ (x : Command) (m : Machine) (acts : Acting x) where
+  decided : judged m ≡ Accepted → resultFor x m ≡ comesTo (readyAct primitives map1 m x) m
+  unfolding comesTo act
+  decided e = ap (λ (s : Step). s .result) (accepted-step x m e ∙ obeyed x m acts)
+
+  not-ready : judged m ≡ Accepted → isReady (m .session .phase) ≡ false → record { machine = m; answer = NotReady } ≡ resultFor x m
+  unfolding readyAct turned
+  not-ready e r = sym (decided e ∙ ap (λ (a : Act). comesTo a m) (if-true (refuse NotReady) _ (ap not r)) ∙ said m NotReady stay)
+
+  -- refused: nothing changes
+  pub refused : (a : Answer) → admission m ≡ Refused a → record { machine = m; answer = a } ≡ resultFor x m
+  refused a h =
+      let s = m .session .phase in
+      by-judged (judged m)
+      (λ e. by-cases (isReady s) (λ r. absurd (accepted-not-refused (sym (phase-ready _ _ _ s e r) ∙ h))) (λ r. ap result (same (sym h ∙ phase-not-ready _ _ _ s e r)) ∙ not-ready e r))
+      (λ b e. ap result (same (sym h ∙ not-accepted _ _ _ s b e)) ∙ refused-step x m b e)
+    where
+      result : Answer → Result
+      result b = record { machine = m; answer = b }
+
+      same : {b : Answer} → Refused a ≡ Refused b → a ≡ b
+      same q = cc
+
+  -- admitted: the result is what the command's act comes to
+  pub acted : admission m ≡ Accepted → resultFor x m ≡ comesTo (commandAct primitives map1 m x) m
+  unfolding readyAct
+  acted h =
+      let q = admitted _ _ _ (m .session .phase) h in
+      decided (q .0) ∙ ap (λ (a : Act). comesTo a m) (if-false _ _ (ap not (q .1)))

@@ -1,0 +1,50 @@
+-- What code reads of what is lent, against the definitions. The idea: eight words are two numbers of four, and a part inside the cells is a slice of them.
+use mathlib.Core.Path.{_≡_, sym, ap}
+use mathlib.Core.Bool.{true, false}
+use mathlib.Core.List.{List}
+use Prim.Native.Nat.{ℕ, suc, _+_, _*_, _-_, _/_, _^_, _≤_}
+use native.Mathlib.Omega.{arith}
+use lib.ListN.{length, take, drop}
+use Rattle.basics.specs.Range.{listed}
+use Rattle.basics.proofs.Choice.{if-true, if-false}
+use Rattle.words.specs.Words.{numberOf, partAt}
+use Rattle.words.proofs.Parts.{part-slice}
+use Rattle.present.specs.Present.{encryptBlock, decryptBlock}
+use Rattle.digest.specs.Digest.{digestWords}
+use Rattle.partitions.specs.declared.Partition.{Partition}
+use Rattle.partitions.specs.Map.{rightsOf}
+use Rattle.partitions.specs.Map1.{map1}
+use Rattle.model.specs.Lent.{keyOf, digestStart, digestFinal}
+use Rattle.model.specs.Commands.{dataWords, scrambled, unscrambled, computedDigest}
+use Rattle.chip.specs.Chip.{primitives}
+
+-- the number of eight words, by its high and its low half
+pub number-halves : (c : List ℕ) (at : ℕ) → numberOf (partAt c (at + 4) 4) * 2 ^ 64 + numberOf (partAt c at 4) ≡ numberOf (partAt c at 8)
+unfolding partAt listed numberOf
+number-halves c at =
+    let e : at + 4 ≡ suc (suc (suc (suc at))) = omega arith in
+    rw e (omega arith)
+
+-- a secret's blocks are stored scrambled, all others plain
+module _ (k : List ℕ) (p : Partition) (block : ℕ) where
+  pub plain : rightsOf (p .kind) .scrambled ≡ false → block ≡ scrambled primitives map1 k p block
+  unfolding scrambled
+  plain e = sym (if-false _ _ e)
+
+  pub plain-back : rightsOf (p .kind) .scrambled ≡ false → block ≡ unscrambled primitives map1 k p block
+  unfolding unscrambled
+  plain-back e = sym (if-false _ _ e)
+
+  pub secret : rightsOf (p .kind) .scrambled ≡ true → encryptBlock (keyOf k (p .kind)) block ≡ scrambled primitives map1 k p block
+  unfolding scrambled
+  secret e = sym (if-true _ _ e)
+
+  pub secret-back : rightsOf (p .kind) .scrambled ≡ true → decryptBlock (keyOf k (p .kind)) block ≡ unscrambled primitives map1 k p block
+  unfolding unscrambled
+  secret-back e = sym (if-true _ _ e)
+
+-- the digest over the slice of the data words
+pub data-digest : (k : List ℕ) (p : Partition) (cells : List ℕ) → p .start ≤ p .digest → p .digest / 2 ≤ length cells
+    → digestWords (digestStart k) (digestFinal k) (take (p .digest / 2 - p .start / 2) (drop (p .start / 2) cells)) ≡ computedDigest primitives map1 k p cells
+unfolding computedDigest dataWords
+data-digest k p cells l u = ap (digestWords (digestStart k) (digestFinal k)) (sym (part-slice cells (p .start / 2) (p .digest / 2 - p .start / 2) (omega arith)))

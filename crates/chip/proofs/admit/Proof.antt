@@ -1,0 +1,86 @@
+-- Each arm is an arm of the definition.
+use mathlib.Core.Path.{_≡_, sym, ap, _∙_}
+use Rattle.model.specs.Session.{isReady}
+use Rattle.chip.specs.declared.Judged.the-variants.{Accepted}
+use Rattle.chip.specs.Judging.{judgedOf}
+use Rattle.chip.proofs.Admission.{not-accepted, phase-not-ready, phase-ready}
+use borrow.Author.Needs.{needs}
+use Rattle.chip.proofs.admit.Statement.{statement}
+use Rattle.chip.proofs.admit.Tie as tie
+
+judge-requires : tie.Need-judge-requires
+judge-requires c κs = search needs
+
+enum-known-answer : tie.Need-enum-known-answer
+enum-known-answer c = search needs
+
+enum-told : tie.Need-enum-told
+enum-told c = search needs
+
+enum-told-2 : tie.Need-enum-told-2
+enum-told-2 c = search needs
+
+enum-told-3 : tie.Need-enum-told-3
+enum-told-3 c = search needs
+
+enum-told-4 : tie.Need-enum-told-4
+enum-told-4 c = search needs
+
+enum-told-5 : tie.Need-enum-told-5
+enum-told-5 c = search needs
+
+abbrev start : tie.After-enum-told → tie.Start
+start t = t .before .before .before .before
+
+accepted : (t : tie.After-enum-told) → judgedOf (start t .args .cells) (start t .args .copy) (start t .args .constants .now) ≡ Accepted
+accepted t = sym (t .before .before .judge .ensures) ∙ t .enum-told .given .1
+
+returns : tie.Need-returns
+returns c =
+    let o = c .before .before .before .before .before .args in
+    sym (not-accepted (o .cells) (o .copy) (o .constants .now) (o .session .phase) _ (sym (c .before .before .before .judge .ensures) ∙ c .before .answer .given .1))
+
+returns-2 : tie.Need-returns-2
+unfolding isReady
+returns-2 c =
+    let t = c .before .before in
+    let o = start t .args in
+    sym (phase-not-ready (o .cells) (o .copy) (o .constants .now) (o .session .phase) (accepted t) (ap isReady (c .enum-told2 .given .1)))
+
+returns-3 : tie.Need-returns-3
+unfolding isReady
+returns-3 c =
+    let t = c .before .before in
+    let o = start t .args in
+    sym (phase-ready (o .cells) (o .copy) (o .constants .now) (o .session .phase) (accepted t) (ap isReady (c .enum-told3 .given .1)))
+
+returns-4 : tie.Need-returns-4
+unfolding isReady
+returns-4 c =
+    let t = c .before .before in
+    let o = start t .args in
+    sym (phase-not-ready (o .cells) (o .copy) (o .constants .now) (o .session .phase) (accepted t) (ap isReady (c .enum-told4 .given .1)))
+
+returns-5 : tie.Need-returns-5
+unfolding isReady
+returns-5 c =
+    let t = c .before .before in
+    let o = start t .args in
+    sym (phase-not-ready (o .cells) (o .copy) (o .constants .now) (o .session .phase) (accepted t) (ap isReady (c .enum-told5 .given .1)))
+
+pub admit-spec : {M : Type 1} → statement M
+admit-spec =
+    tie.close
+    (tie.spec
+    judge-requires
+    enum-known-answer
+    enum-told
+    enum-told-2
+    enum-told-3
+    enum-told-4
+    enum-told-5
+    returns
+    returns-2
+    returns-3
+    returns-4
+    returns-5)

@@ -1,0 +1,31 @@
+-- Two numbers of four words; past the end all are zero.
+use mathlib.Core.Path.{sym, ap₂, _∙_}
+use Prim.Native.Nat.{ℕ, _+_, _*_, _^_}
+use Rattle.words.proofs.Parts.{zeros-past}
+use Rattle.chip.proofs.Reading.{number-halves}
+use borrow.Author.Needs.{needs}
+use Rattle.chip.proofs.eight_words.Statement.{statement}
+use Rattle.chip.proofs.eight_words.Tie as tie
+
+returns : tie.Need-returns
+returns c = sym (zeros-past (c .before .before .args .words .now) (c .before .before .args .at) 8 (c .if1 .taken))
+
+add-four-words : tie.Need-add-four-words
+add-four-words c = search needs
+
+four-words-requires : tie.Need-four-words-requires
+four-words-requires c κs = search needs
+
+four-words-requires-2 : tie.Need-four-words-requires-2
+four-words-requires-2 c κs = search needs
+
+returns-2 : tie.Need-returns-2
+returns-2 c =
+    let o = c .before .before .before .before in
+    let ws = o .args .words .now in
+    let at = o .args .at in
+    ap₂ (λ (x y : ℕ). x * 2 ^ 64 + y) (c .before .four-words .ensures) (c .four-words2 .ensures) ∙ number-halves ws at
+
+pub eight-words-spec : {M : Type 1} → statement M
+eight-words-spec =
+    tie.close (tie.spec returns add-four-words four-words-requires four-words-requires-2 returns-2)

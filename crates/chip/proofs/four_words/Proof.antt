@@ -1,0 +1,39 @@
+-- The four words from `at` on are the lowest of the rest; past the end all are zero.
+use mathlib.Core.Path.{sym, ap, _∙_}
+use mathlib.Core.List.{List}
+use Prim.Native.Nat.{ℕ}
+use lib.ListN.{take}
+use Rattle.words.specs.Words.{numberOf}
+use Rattle.words.proofs.Parts.{number-part, rest-slice, zeros-past}
+use borrow.Author.Needs.{needs}
+use Rattle.chip.proofs.four_words.Statement.{statement}
+use Rattle.chip.proofs.four_words.Tie as tie
+
+mul-join : tie.Need-mul-join
+mul-join c = search needs
+
+sub-join : tie.Need-sub-join
+sub-join c = search needs
+
+part-join-start : tie.Need-part-join-start
+part-join-start c = search needs
+
+part-join-end : tie.Need-part-join-end
+part-join-end c = search needs
+
+join-requires : tie.Need-join-requires
+join-requires c κs = search needs
+
+returns : tie.Need-returns
+returns c =
+    let o = c .before .before .before .before in
+    let ws = o .args .words .now in
+    c .join .ensures ∙ ap (λ (l : List ℕ). numberOf (take 4 l)) (rest-slice ws (o .args .at)) ∙ sym (number-part ws (o .args .at) 4)
+
+returns-2 : tie.Need-returns-2
+returns-2 c = sym (zeros-past (c .before .before .args .words .now) (c .before .before .args .at) 4 (c .if1 .left))
+
+pub four-words-spec : {M : Type 1} → statement M
+four-words-spec =
+    tie.close
+    (tie.spec mul-join sub-join part-join-start part-join-end join-requires returns returns-2)

@@ -1,0 +1,15 @@
+-- The four words are read off the definition.
+use borrow.Author.Needs.{needs}
+use Rattle.model.specs.Commands.{storedDigest}
+use Rattle.chip.proofs.stored_digest.Statement.{statement}
+use Rattle.chip.proofs.stored_digest.Tie as tie
+
+four-words-requires : tie.Need-four-words-requires
+four-words-requires c κs = search needs
+
+returns : tie.Need-returns
+unfolding storedDigest
+returns c = c .four-words .ensures
+
+pub stored-digest-spec : {M : Type 1} → statement M
+stored-digest-spec = tie.close (tie.spec four-words-requires returns)

@@ -1,0 +1,93 @@
+-- The commands' acts as one test each. The idea: the guards of a definition all refuse alike, so they are one test that the command may act.
+use mathlib.Core.Path.{_≡_, refl}
+use mathlib.Core.Bool.{Bool, true, false, not, _&&_, _||_}
+use Prim.Native.Nat.{ℕ, _/_, _≤_, _<_}
+use lib.Dec.{leb}
+use borrow.Author.Tests.{le-leb, lt-leb}
+use Rattle.basics.specs.Choice.{if_then_else_}
+use Rattle.basics.proofs.Choice.{if-true, if-false}
+use Rattle.words.specs.Words.{wordsOf}
+use Rattle.partitions.specs.declared.Partition.{Partition}
+use Rattle.partitions.specs.Map.{rightsOf, numberAt, partitionAt, limit, inDigest, firstWord, wordCount}
+use Rattle.partitions.specs.Map1.{map1}
+use Rattle.model.specs.declared.Answer.the-variants.{Done, Denied}
+use Rattle.model.specs.declared.Command.the-variants.{Read, Write, FrontRead, Digest}
+use Rattle.model.specs.Session.{sensedLocked}
+use Rattle.model.specs.Lent.{Machine}
+use Rattle.model.specs.Acts.{Act, stay, say, program, refuse}
+use Rattle.model.specs.Commands.{granule, scrambled, computedDigest, writeAct, readAct, frontReadAct, digestAct, commandAct}
+use Rattle.chip.specs.Chip.{primitives}
+use Rattle.direct_access.specs.Access.{mayWrite, mayRead, mayFrontRead, mayDigest, readValue}
+
+-- an address past the map is refused, and so is a command that may not act
+unfoldable pub guarded : ℕ → Bool → Act → Act
+guarded a may go = if leb (limit map1) a then refuse Denied else if may then go else refuse Denied
+
+module _ (a : ℕ) (may : Bool) (go : Act) where
+  pub past-guard : limit map1 ≤ a → guarded a may go ≡ refuse Denied
+  unfolding guarded
+  past-guard h = if-true _ _ (le-leb _ _ h)
+
+  pub guard-passed : a < limit map1 → guarded a may go ≡ (if may then go else refuse Denied)
+  unfolding guarded
+  guard-passed h = if-false _ _ (lt-leb _ _ h)
+
+-- ---- guards that refuse alike
+
+two : {A : Type 0} (b c : Bool) (x y : A) → (if not b then y else if c then y else x) ≡ (if b && not c then x else y)
+unfolding if_then_else_
+two true true x y = refl
+two true false x y = refl
+two false c x y = refl
+
+three : {A : Type 0} (b c d : Bool) (x y : A) → (if not b then y else if c then y else if d then y else x) ≡ (if b && not c && not d then x else y)
+unfolding if_then_else_
+three true true d x y = refl
+three true false true x y = refl
+three true false false x y = refl
+three false c d x y = refl
+
+three-of : {A : Type 0} (b c d : Bool) (x y : A) → (if not b then y else if not c then y else if d then y else x) ≡ (if b && c && not d then x else y)
+unfolding if_then_else_
+three-of true true true x y = refl
+three-of true true false x y = refl
+three-of true false d x y = refl
+three-of false c d x y = refl
+
+-- a digest is read plain, and data unless one of two locks holds
+unlocked : (b i c d : Bool) (x y : ℕ)
+    → (if not b then refuse Denied else if i then say (Done x) stay else if c then refuse Denied else if d then refuse Denied else say (Done y) stay)
+    ≡ (if b && (i || not c && not d) then say (Done (if i then x else y)) stay else refuse Denied)
+unfolding if_then_else_
+unlocked true true c d x y = refl
+unlocked true false true d x y = refl
+unlocked true false false true x y = refl
+unlocked true false false false x y = refl
+unlocked false i c d x y = refl
+
+-- ---- the four commands
+
+module _ (m : Machine) (a n : ℕ) (p : Partition) (number : n ≡ numberAt map1 a) (found : p ≡ partitionAt map1 a) where
+  pub write-act : (value : ℕ)
+      → commandAct primitives map1 m (Write a value)
+      ≡ guarded a (mayWrite (m .session) n p a)
+      (program (firstWord p a) (wordsOf (wordCount p a) (scrambled primitives map1 (m .lent .constants) p value)) stay (say (Done 0) stay))
+  unfolding commandAct writeAct mayWrite guarded
+  write-act value =
+      rw (number, found, three (rightsOf (partitionAt map1 a .kind) .direct) (rightsOf (partitionAt map1 a .kind) .hardware && inDigest (partitionAt map1 a) a) (sensedLocked (m .session) (numberAt map1 a)))
+
+  pub read-act : commandAct primitives map1 m (Read a)
+      ≡ guarded a (mayRead (m .session) n p a) (say (Done (readValue (m .lent .cells) (m .lent .constants) p a)) stay)
+  unfolding commandAct readAct mayRead readValue guarded
+  read-act = rw (number, found, unlocked)
+
+  pub front-act : commandAct primitives map1 m (FrontRead a) ≡ guarded a (mayFrontRead p a) (say (Done (granule p (m .lent .copy) a)) stay)
+  unfolding commandAct frontReadAct mayFrontRead guarded
+  front-act = rw (found, two)
+
+  pub digest-act : commandAct primitives map1 m (Digest a)
+      ≡ guarded a (mayDigest (m .session) n p a)
+      (program (p .digest / 2) (wordsOf 4 (computedDigest primitives map1 (m .lent .constants) p (m .lent .cells))) stay
+      (say (Done (computedDigest primitives map1 (m .lent .constants) p (m .lent .cells))) stay))
+  unfolding commandAct digestAct mayDigest guarded
+  digest-act = rw (number, found, three-of)

@@ -1,0 +1,24 @@
+-- The tests are those of the definition.
+use Rattle.partitions.specs.Map.{inDigest}
+use Rattle.model.specs.Session.{sensedLocked}
+use Rattle.direct_access.specs.Access.{mayRead}
+use borrow.Author.Needs.{needs}
+use Rattle.direct_access.proofs.may_read.Statement.{statement}
+use Rattle.direct_access.proofs.may_read.Tie as tie
+
+rights-requires : tie.Need-rights-requires
+rights-requires c κs = search needs
+
+sensed-at-requires : tie.Need-sensed-at-requires
+sensed-at-requires c κs = search needs
+
+read-locked-requires : tie.Need-read-locked-requires
+read-locked-requires c κs = search needs
+
+returns : tie.Need-returns
+unfolding mayRead inDigest sensedLocked
+returns c = rw (← c .before .before .before .before .before .rights .ensures, ← c .before .before .before .before .sensed-at .ensures, ← c .before .before .read-locked .ensures)
+
+pub may-read-spec : {M : Type 1} → statement M
+may-read-spec =
+    tie.close (tie.spec rights-requires sensed-at-requires read-locked-requires returns)

@@ -1,0 +1,67 @@
+-- Refused for want of admission, or past the map; else the address has its number and partition.
+use mathlib.Core.Path.{_≡_, sym, ap₂, _∙_}
+use Rattle.partitions.specs.Map1.{map1}
+use Rattle.partitions.proofs.Map1.{map1-limit}
+use Rattle.partitions.proofs.Map.{partition-at}
+use Rattle.chip.specs.declared.Judged.the-variants.{Accepted}
+use Rattle.chip.specs.Admission.{admittedOf}
+use Rattle.direct_access.specs.declared.Reached.the-variants.{At}
+use Rattle.direct_access.proofs.Places.{not-admitted, past-map, in-map}
+use borrow.Author.Needs.{needs}
+use Rattle.direct_access.proofs.reach.Statement.{statement}
+use Rattle.direct_access.proofs.reach.Tie as tie
+
+admit-requires : tie.Need-admit-requires
+admit-requires c κs = search needs
+
+enum-known-answer : tie.Need-enum-known-answer
+enum-known-answer c = search needs
+
+enum-told : tie.Need-enum-told
+enum-told c = search needs
+
+abbrev start : tie.After-enum-told → tie.Start
+start t = t .before .before .before .before
+
+accepted : (t : tie.After-enum-told) → admittedOf (start t .args .cells) (start t .args .copy) (start t .args .constants .now) (start t .args .session .phase) ≡ Accepted
+accepted t = sym (t .before .before .admit .ensures) ∙ t .enum-told .given .1
+
+returns : tie.Need-returns
+returns c =
+    let t = c .before in
+    let o = start t .args in
+    sym (past-map (o .cells) (o .copy) (o .constants .now) (o .session .phase) (o .address) (accepted t) (rw map1-limit (c .if1 .taken)))
+
+number-at-requires : tie.Need-number-at-requires
+number-at-requires c κs = search needs
+
+partition-of-requires : tie.Need-partition-of-requires
+partition-of-requires c κs = search needs
+
+returns-2 : tie.Need-returns-2
+returns-2 c =
+    let a = c .before .before .before in
+    let o = a .before .before .args in
+    sym (not-admitted (o .cells) (o .copy) (o .constants .now) (o .session .phase) (o .address) _ (sym (a .admit .ensures) ∙ c .before .answer .given .1))
+
+returns-3 : tie.Need-returns-3
+returns-3 c =
+    let n = c .before in
+    let t = n .before .before in
+    let o = start t .args in
+    let e = n .number-at .ensures in
+    let found = c .partition-of .ensures ∙ sym (partition-at map1 (o .address) (sym e)) in
+    ap₂ At e found ∙ sym (in-map (o .cells) (o .copy) (o .constants .now) (o .session .phase) (o .address) (accepted t) (rw map1-limit (n .before .if1 .left)))
+
+pub reach-spec : {M : Type 1} → statement M
+reach-spec =
+    tie.close
+    (tie.spec
+    admit-requires
+    enum-known-answer
+    enum-told
+    returns
+    number-at-requires
+    partition-of-requires
+    returns-2
+    returns-3)

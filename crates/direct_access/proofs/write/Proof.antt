@@ -1,0 +1,124 @@
+-- No place, no right, or the granule is programmed with the words of the value.
+use mathlib.Core.Path.{_≡_, sym, ap, _∙_}
+use Prim.Native.Nat.{_≤_}
+use native.Mathlib.Omega.{arith}
+use lib.ListN.{take}
+use lib.Seq.{length-take-le}
+use borrow.Author.Tests.{not-true, not-false}
+use Rattle.words.specs.declared.Programmed.{Programmed}
+use Rattle.words.specs.Words.{wordsOf}
+use Rattle.words.proofs.Words.{words-take, length-words}
+use Rattle.partitions.specs.Map.{wordCount}
+use Rattle.partitions.specs.Map1.{map1}
+use Rattle.model.specs.Lent.{Machine}
+use Rattle.model.specs.Commands.{scrambled}
+use Rattle.chip.specs.Chip.{primitives, machineOf}
+use Rattle.direct_access.specs.declared.Reached.the-variants.{At}
+use Rattle.direct_access.specs.Access.{programmedAnswer}
+use Rattle.direct_access.proofs.Places.{held}
+use Rattle.direct_access.proofs.Results.{reached}
+use Rattle.direct_access.proofs.Commands.{write-stopped, write-denied, write-done}
+use borrow.Author.Needs.{needs}
+use Rattle.direct_access.proofs.write.Statement.{statement}
+use Rattle.direct_access.proofs.write.Tie as tie
+
+reach-requires : tie.Need-reach-requires
+reach-requires c κs = search needs
+
+enum-known-answer : tie.Need-enum-known-answer
+enum-known-answer c = search needs
+
+enum-known-number : tie.Need-enum-known-number
+enum-known-number c = search needs
+
+may-write-requires : tie.Need-may-write-requires
+may-write-requires c κs = search needs
+
+-- what is lent, and the place that was reached
+abbrev start : tie.After-reach → tie.Start
+start t = t .before .before .before .before
+
+abbrev lent : tie.Start → Machine
+lent s = machineOf (s .args .cells .now) (s .args .copy .now) (s .args .constants .now) (s .args .session)
+
+at-place : (t : tie.After-number) → let s = start (t .before .before) in reached (lent s) (s .args .address) ≡ At (t .number .given .0 .0) (t .number .given .0 .1 .0)
+at-place t = sym (t .before .before .reach .ensures) ∙ t .number .given .1
+
+returns : tie.Need-returns
+returns c =
+    let t = c .before .before .before in
+    write-denied (lent (start (t .before .before))) _ _ _ (at-place t) _ (sym (c .before .may-write .ensures) ∙ not-true _ (c .if1 .taken))
+
+granule-at-requires : tie.Need-granule-at-requires
+granule-at-requires c κs = search needs
+
+scrambled-requires : tie.Need-scrambled-requires
+scrambled-requires c κs = search needs
+
+split-requires : tie.Need-split-requires
+split-requires c κs = search needs
+
+-- the words lent with the granule
+few : (t : tie.After-granule-at) → t .granule-at .result .words ≤ 4
+few t =
+    let h = held _ _ _ _ _ _ _ (at-place (t .before .before .before .before)) in
+    omega (arith, h .few, t .granule-at .ensures .1)
+
+lent-words : (t : tie.After-split) → let g = t .before .before in let n = g .before .before .before .before in let s = start (n .before .before) in
+    take (g .granule-at .result .words) (t .split .result) ≡ wordsOf (wordCount (n .number .given .0 .1 .0) (s .args .address)) (scrambled primitives map1 (s .args .constants .now) (n .number .given .0 .1 .0) (s .args .value))
+lent-words t =
+    let g = t .before .before in
+    let h = held _ _ _ _ _ _ _ (at-place (g .before .before .before .before)) in
+    rw (t .split .ensures, t .before .scrambled .ensures, g .granule-at .ensures .1) (words-take _ 4 _ (h .few))
+
+array-share-prefix-words : tie.Need-array-share-prefix-words
+array-share-prefix-words c = rw (c .before .split .ensures, length-words 4) (few (c .before .before .before))
+
+slice-aggregate-program : tie.Need-slice-aggregate-program
+slice-aggregate-program c =
+    let t = c .before .before in
+    sym (length-take-le _ (t .split .result) (rw (t .split .ensures, length-words 4) (few (t .before .before))))
+
+program-requires : tie.Need-program-requires
+program-requires c κs = search needs
+
+answer-of-requires : tie.Need-answer-of-requires
+answer-of-requires c κs = search needs
+
+returns-2 : tie.Need-returns-2
+returns-2 c =
+    let r = c .before .before .before in
+    write-stopped (lent (start r)) _ _ (sym (r .reach .ensures) ∙ c .before .answer .given .1) _
+
+same-length : tie.Need-same-length
+same-length c = search needs
+
+returns-3 : tie.Need-returns-3
+returns-3 c =
+    let q = c .before .before .before in
+    let t = q .before .before .before in
+    let g = t .before .before in
+    let w = g .before .before in
+    let n = w .before .before in
+    write-done (lent (start (n .before .before))) _ _ _ (at-place n) _ (sym (w .may-write .ensures) ∙ not-false _ (g .before .if1 .left)) _ _ _ _
+    (g .granule-at .ensures .0) (lent-words t) (q .program .ensures .1) (c .answer-of .ensures ∙ ap (λ (r : Programmed). programmedAnswer r 0) (q .program .ensures .0))
+
+pub write-spec : {M : Type 1} → statement M
+write-spec =
+    tie.close
+    (tie.spec
+    reach-requires
+    enum-known-answer
+    enum-known-number
+    may-write-requires
+    returns
+    granule-at-requires
+    scrambled-requires
+    split-requires
+    array-share-prefix-words
+    slice-aggregate-program
+    program-requires
+    answer-of-requires
+    returns-2
+    same-length
+    returns-3)

@@ -1,0 +1,259 @@
+// The commands of the direct access interface, and front reads. The session record goes in by value and comes back in the outcome.
+use chip::Judged;
+use model::Answer;
+use model::Outcome;
+use model::Session;
+use partitions::LifeCyclePartition;
+use partitions::Partition;
+use words::Programmed;
+ghost use mathlib.Core.Path.{_≡_};
+ghost use Prim.Native.Nat.{_+_, _≤_};
+ghost use lib.ListN.{length};
+ghost use Rattle.partitions.specs.Map.{firstWord, wordCount};
+ghost use Rattle.model.specs.declared.Command.{Command};
+ghost use Rattle.model.specs.Commands.{granule};
+ghost use Rattle.chip.specs.Chip.{machineOf, resultOf, resultFor};
+ghost use Rattle.direct_access.specs.Access.{reachedOf, mayWrite, mayRead, mayFrontRead, mayDigest, readValue, programmedAnswer};
+
+// The place of an address: the number of its partition, and the partition. Or the command is refused.
+enum Reached {
+    At(usize, Partition),
+    Refused(Answer),
+}
+
+// What every command on an address tests first, in the paper's order: what is lent, the phase, the address.
+fn reach(cells: usize, copy: usize, constants: &[u16], session: Session, address: usize) -> Reached
+    ensures { λ r. ⌜ r ≡ reachedOf cells copy (now (constants .entry)) (session .phase) address ⌝ }
+{
+    match chip::admit(cells, copy, constants, session) {
+        Judged::Refused(answer) => Reached::Refused(answer),
+        Judged::Accepted => {
+            if LifeCyclePartition::END <= address {
+                return Reached::Refused(Answer::Denied);
+            }
+            let number = partitions::number_at(address);
+            Reached::At(number, partitions::partition_of(number))
+        }
+    }
+}
+
+fn may_write(session: Session, number: usize, partition: Partition, address: usize) -> bool
+    ensures { λ r. ⌜ r ≡ mayWrite session number partition address ⌝ }
+{
+    let kind = partition.kind;
+    let rights = kind.rights();
+    let in_digest = rights.hardware & (partition.digest <= address);
+    let locked = session.sensed_at(number) != 0;
+    rights.direct & !in_digest & !locked
+}
+
+fn may_read(session: Session, number: usize, partition: Partition, address: usize) -> bool
+    ensures { λ r. ⌜ r ≡ mayRead session number partition address ⌝ }
+{
+    let kind = partition.kind;
+    let rights = kind.rights();
+    let locked = rights.scrambled & (session.sensed_at(number) != 0);
+    let data = !session.read_locked(number) & !locked;
+    rights.direct & ((partition.digest <= address) | data)
+}
+
+fn may_front_read(partition: Partition, address: usize) -> bool
+    ensures { λ r. ⌜ r ≡ mayFrontRead partition address ⌝ }
+{
+    let kind = partition.kind;
+    let rights = kind.rights();
+    rights.front & !(partition.digest <= address)
+}
+
+fn may_digest(session: Session, number: usize, partition: Partition, address: usize) -> bool
+    ensures { λ r. ⌜ r ≡ mayDigest session number partition address ⌝ }
+{
+    let kind = partition.kind;
+    let rights = kind.rights();
+    let locked = session.sensed_at(number) != 0;
+    rights.hardware & (address == partition.start) & !locked
+}
+
+// The granule of an address, which lies in the words.
+fn granule(words: &[u16], partition: Partition, address: usize) -> u64
+    requires { ⌜ (firstWord partition address + wordCount partition address ≤ length (now words)) × (wordCount partition address ≤ 4) ⌝ }
+    ensures { λ r. ⌜ r ≡ granule partition (now (words .entry)) address ⌝ }
+{
+    let place = partition.granule_at(address);
+    let at = place.word;
+    let end = at + place.words;
+    words::join(&words[at..end])
+}
+
+// What a read answers: a digest plain, secret data unscrambled.
+fn read_value(cells: &[u16], constants: &[u16], partition: Partition, address: usize) -> u64
+    requires { ⌜ (firstWord partition address + wordCount partition address ≤ length (now cells)) × (wordCount partition address ≤ 4) ⌝ }
+    ensures { λ r. ⌜ r ≡ readValue (now (cells .entry)) (now (constants .entry)) partition address ⌝ }
+{
+    let stored = granule(cells, partition, address);
+    if partition.digest <= address {
+        return stored;
+    }
+    chip::unscrambled(constants, partition, stored)
+}
+
+fn answer_of(programmed: Programmed, value: u64) -> Answer
+    ensures { λ r. ⌜ r ≡ programmedAnswer programmed value ⌝ }
+{
+    match programmed {
+        Programmed::Done => Answer::Done(value),
+        Programmed::Refused(cell) => Answer::Cleared(cell),
+    }
+}
+
+pub fn read(
+    cells: &[u16],
+    copy: &[u16],
+    constants: &[u16],
+    session: Session,
+    address: u32,
+) -> Outcome
+    ensures { λ r. ⌜ resultOf (now (cells .entry)) (now (copy .entry)) (now (constants .entry)) r ≡ resultFor (Command.Read address) (machineOf (now (cells .entry)) (now (copy .entry)) (now (constants .entry)) session) ⌝ }
+{
+    let byte = address as usize;
+    match reach(cells.len(), copy.len(), constants, session, byte) {
+        Reached::Refused(answer) => Outcome { session, answer },
+        Reached::At(number, partition) => {
+            if !may_read(session, number, partition, byte) {
+                return Outcome {
+                    session,
+                    answer: Answer::Denied,
+                };
+            }
+            let value = read_value(cells, constants, partition, byte);
+            Outcome {
+                session,
+                answer: Answer::Done(value),
+            }
+        }
+    }
+}
+
+pub fn write(
+    cells: &mut [u16],
+    copy: &[u16],
+    constants: &[u16],
+    session: Session,
+    address: u32,
+    value: u64,
+) -> Outcome
+    ensures { λ r. ⌜ resultOf (now (cells .exit)) (now (copy .entry)) (now (constants .entry)) r ≡ resultFor (Command.Write address value) (machineOf (now (cells .entry)) (now (copy .entry)) (now (constants .entry)) session) ⌝ }
+{
+    let byte = address as usize;
+    match reach(cells.len(), copy.len(), constants, session, byte) {
+        Reached::Refused(answer) => Outcome { session, answer },
+        Reached::At(number, partition) => {
+            if !may_write(session, number, partition, byte) {
+                return Outcome {
+                    session,
+                    answer: Answer::Denied,
+                };
+            }
+            let place = partition.granule_at(byte);
+            let n = place.words;
+            let words = words::split(chip::scrambled(constants, partition, value));
+            let programmed = words::program(cells, place.word, &words[..n]);
+            Outcome {
+                session,
+                answer: answer_of(programmed, 0),
+            }
+        }
+    }
+}
+
+pub fn front_read(
+    cells: &[u16],
+    copy: &[u16],
+    constants: &[u16],
+    session: Session,
+    address: u32,
+) -> Outcome
+    ensures { λ r. ⌜ resultOf (now (cells .entry)) (now (copy .entry)) (now (constants .entry)) r ≡ resultFor (Command.FrontRead address) (machineOf (now (cells .entry)) (now (copy .entry)) (now (constants .entry)) session) ⌝ }
+{
+    let byte = address as usize;
+    match reach(cells.len(), copy.len(), constants, session, byte) {
+        Reached::Refused(answer) => Outcome { session, answer },
+        Reached::At(_, partition) => {
+            if !may_front_read(partition, byte) {
+                return Outcome {
+                    session,
+                    answer: Answer::Denied,
+                };
+            }
+            let value = granule(copy, partition, byte);
+            Outcome {
+                session,
+                answer: Answer::Done(value),
+            }
+        }
+    }
+}
+
+pub fn digest(
+    cells: &mut [u16],
+    copy: &[u16],
+    constants: &[u16],
+    session: Session,
+    address: u32,
+) -> Outcome
+    ensures { λ r. ⌜ resultOf (now (cells .exit)) (now (copy .entry)) (now (constants .entry)) r ≡ resultFor (Command.Digest address) (machineOf (now (cells .entry)) (now (copy .entry)) (now (constants .entry)) session) ⌝ }
+{
+    let byte = address as usize;
+    match reach(cells.len(), copy.len(), constants, session, byte) {
+        Reached::Refused(answer) => Outcome { session, answer },
+        Reached::At(number, partition) => {
+            if !may_digest(session, number, partition, byte) {
+                return Outcome {
+                    session,
+                    answer: Answer::Denied,
+                };
+            }
+            let at = partition.start / 2;
+            let end = partition.digest / 2;
+            let value = chip::digest_of(constants, &cells[at..end]);
+            let words = words::split(value);
+            let programmed = words::program(cells, end, &words[..]);
+            Outcome {
+                session,
+                answer: answer_of(programmed, value),
+            }
+        }
+    }
+}
+
+pub fn read_lock(
+    cells: &[u16],
+    copy: &[u16],
+    constants: &[u16],
+    session: Session,
+    partition: u8,
+) -> Outcome
+    ensures { λ r. ⌜ resultOf (now (cells .entry)) (now (copy .entry)) (now (constants .entry)) r ≡ resultFor (Command.ReadLock partition) (machineOf (now (cells .entry)) (now (copy .entry)) (now (constants .entry)) session) ⌝ }
+{
+    match chip::admit(cells.len(), copy.len(), constants, session) {
+        Judged::Refused(answer) => Outcome { session, answer },
+        Judged::Accepted => {
+            let number = partition as usize;
+            let found = partitions::partition_of(number);
+            let kind = found.kind;
+            let rights = kind.rights();
+            if !rights.lockable {
+                return Outcome {
+                    session,
+                    answer: Answer::Denied,
+                };
+            }
+            let mut locked = session;
+            locked.locks[number] = true;
+            Outcome {
+                session: locked,
+                answer: Answer::Done(0),
+            }
+        }
+    }
+}

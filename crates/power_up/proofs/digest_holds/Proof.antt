@@ -1,0 +1,53 @@
+-- The two early returns and the comparison are the three alternatives of the definition, in order.
+use mathlib.Core.Path.{_≡_, sym, ap, ap₂, _∙_}
+use mathlib.Core.Bool.{Bool, true, false}
+use Prim.Native.Nat.{ℕ}
+use lib.Dec.{eqb}
+use borrow.Author.Needs.{needs}
+use borrow.Author.Tests.{not-true, not-false}
+use Rattle.partitions.specs.Map.{rightsOf}
+use Rattle.partitions.specs.Map1.{map1}
+use Rattle.partitions.specs.declared.Rights.{Rights}
+use Rattle.chip.specs.Chip.{primitives}
+use Rattle.power_up.proofs.Checking.{none-due, none-stored, compared}
+use Rattle.power_up.proofs.digest_holds.Statement.{statement}
+use Rattle.power_up.proofs.digest_holds.Tie as tie
+
+-- whether a digest is due, as the first test finds it
+due : (t : tie.After-rights) {b : Bool} → t .rights .result .hardware ≡ b → rightsOf (t .before .before .before .args .partition .kind) .hardware ≡ b
+due t e = sym (ap (λ (r : Rights). r .hardware) (t .rights .ensures)) ∙ e
+
+rights-requires : tie.Need-rights-requires
+rights-requires c κs = search needs
+
+returns : tie.Need-returns
+returns c = none-due primitives map1 _ _ _ (due (c .before .before) (not-true _ (c .if1 .taken)))
+
+stored-digest-requires : tie.Need-stored-digest-requires
+stored-digest-requires c κs = search needs
+
+returns-2 : tie.Need-returns-2
+returns-2 c =
+    let t = c .before .before .before .before in
+    none-stored primitives map1 _ _ _ (due t (not-false _ (c .before .before .if1 .left))) (sym (c .before .stored-digest .ensures) ∙ c .if2 .taken)
+
+computed-digest-requires : tie.Need-computed-digest-requires
+computed-digest-requires c κs = search needs
+
+returns-3 : tie.Need-returns-3
+returns-3 c =
+    let s = c .before .before in
+    let t = s .before .before .before in
+    ap₂ eqb (s .stored-digest .ensures) (c .computed-digest .ensures)
+    ∙ compared primitives map1 _ _ _ (due t (not-false _ (s .before .if1 .left))) (λ z. c .before .if2 .left (s .stored-digest .ensures ∙ z))
+
+pub digest-holds-spec : {M : Type 1} → statement M
+digest-holds-spec =
+    tie.close
+    (tie.spec
+    rights-requires
+    returns
+    stored-digest-requires
+    returns-2
+    computed-digest-requires
+    returns-3)

@@ -1,0 +1,64 @@
+-- A refusal changes nothing; what is accepted is powered up.
+use mathlib.Core.Path.{_≡_, sym, ap, _∙_}
+use lib.ListN.{length}
+use Rattle.partitions.specs.Map1.{map1}
+use Rattle.model.specs.declared.Command.the-variants.{PowerUp}
+use Rattle.model.specs.Lent.{Machine}
+use Rattle.model.specs.Step.{Step}
+use Rattle.chip.specs.declared.Judged.{Judged}
+use Rattle.chip.specs.declared.Judged.the-variants.{Accepted}
+use Rattle.chip.specs.Chip.{primitives, machineOf}
+use Rattle.chip.specs.Judging.{judgedOf}
+use Rattle.chip.proofs.Judging.{accepted-right, accepted-step, refused-step}
+use Rattle.power_up.proofs.Waking.{powered-up}
+use borrow.Author.Needs.{needs}
+use Rattle.power_up.proofs.power_up.Statement.{statement}
+use Rattle.power_up.proofs.power_up.Tie as tie
+
+module _ (t : tie.After-judge) where
+  abbrev start : tie.Start
+  start = t .before .before .before .before
+
+  abbrev machine : Machine
+  machine = machineOf (start .args .cells .now) (start .args .copy .now) (start .args .constants .now) (start .args .session)
+
+judge-requires : tie.Need-judge-requires
+judge-requires c κs = search needs
+
+enum-known-answer : tie.Need-enum-known-answer
+enum-known-answer c = search needs
+
+enum-told : tie.Need-enum-told
+enum-told c = search needs
+
+woken-requires : tie.Need-woken-requires
+woken-requires c κs =
+    let t = c .before .before .before in
+    let r = accepted-right _ _ _ (sym (t .judge .ensures) ∙ c .before .enum-told .given .1) in
+    (r .cells-right, r .copy-right)
+
+returns : tie.Need-returns
+returns c =
+    let t = c .before .before .before in
+    refused-step PowerUp (machine t) _ (sym (t .judge .ensures) ∙ c .before .answer .given .1)
+
+same-length : tie.Need-same-length
+same-length c = search needs
+
+returns-2 : tie.Need-returns-2
+returns-2 c =
+    let t = c .before .before .before .before .before .before in
+    let step = accepted-step PowerUp (machine t) (sym (t .judge .ensures) ∙ c .before .before .before .before .enum-told .given .1) in
+    c .before .before .woken .ensures ∙ sym (ap (λ (s : Step). s .result) step ∙ powered-up (machine t))
+
+pub power-up-spec : {M : Type 1} → statement M
+power-up-spec =
+    tie.close
+    (tie.spec
+    judge-requires
+    enum-known-answer
+    enum-told
+    woken-requires
+    returns
+    same-length
+    returns-2)

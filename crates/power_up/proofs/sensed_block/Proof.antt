@@ -1,0 +1,135 @@
+-- The partition of the first word is that of the block: with a read lock it is latched as zero, its digest as stored, its data in the clear.
+use mathlib.Core.Path.{_≡_, sym, ap, ap₂, _∙_}
+use mathlib.Core.Bool.{Bool, true, false}
+use mathlib.Core.List.{List}
+use Prim.Native.Nat.{ℕ, _*_, _<_}
+use native.Mathlib.Omega.{arith}
+use lib.Dec.{leb}
+use lib.ListN.{take}
+use borrow.Author.Tests.{le-leb, lt-leb}
+use Rattle.words.specs.Words.{numberOf, wordsOf, partAt}
+use Rattle.words.proofs.Words.{Words}
+use Rattle.words.proofs.Parts.{number-part, rest-slice}
+use Rattle.partitions.specs.declared.Partition.{Partition}
+use Rattle.partitions.specs.declared.Rights.{Rights}
+use Rattle.partitions.specs.Map.{rightsOf, partition, partitionAt, limit, inDigest}
+use Rattle.partitions.specs.Map1.{map1}
+use Rattle.partitions.proofs.Map1.{map1-fit, map1-limit}
+use Rattle.model.specs.Commands.{unscrambled}
+use Rattle.chip.specs.Chip.{primitives}
+use Rattle.power_up.proofs.Sensing.{zero-block, digest-block, data-block}
+use borrow.Author.Needs.{needs}
+use Rattle.power_up.proofs.sensed_block.Statement.{statement}
+use Rattle.power_up.proofs.sensed_block.Tie as tie
+
+-- what is found of the block's partition
+module _ (t : tie.After-rights) where
+  abbrev start : tie.Start
+  start = t .before .before .before .before .before
+
+  abbrev at : ℕ
+  at = start .args .at
+
+  abbrev cells : List ℕ
+  cells = start .args .cells .now
+
+  found : t .before .partition-of .result ≡ partitionAt map1 (2 * at)
+  unfolding partitionAt
+  found = t .before .partition-of .ensures ∙ ap (partition map1) (t .before .before .number-at .ensures)
+
+  lockable : {b : Bool} → t .rights .result .lockable ≡ b → rightsOf (partitionAt map1 (2 * at) .kind) .lockable ≡ b
+  lockable e = sym (ap (λ (r : Rights). r .lockable) (t .rights .ensures) ∙ ap (λ (p : Partition). rightsOf (p .kind) .lockable) found) ∙ e
+
+  side : {b : Bool} → leb (t .before .partition-of .result .digest) (2 * at) ≡ b → inDigest (partitionAt map1 (2 * at)) (2 * at) ≡ b
+  unfolding inDigest
+  side e = ap (λ (p : Partition). leb (p .digest) (2 * at)) (sym found) ∙ e
+
+  known : 2 * at < limit map1
+  known = rw map1-limit (omega (arith, start .pre .1))
+
+  small : Words cells
+  small = record { small = λ i. omega (arith, t .before .before .before .before .shared-slice-known .given i) }
+
+-- the number of the block
+joined : (j : tie.After-join) → j .join .result ≡ numberOf (partAt (cells (j .before .before .before)) (at (j .before .before .before)) 4)
+joined j =
+    let t = j .before .before .before in
+    j .join .ensures ∙ ap (λ (l : List ℕ). numberOf (take 4 l)) (rest-slice (cells t) (at t)) ∙ sym (number-part (cells t) (at t) 4)
+
+mul-address : tie.Need-mul-address
+mul-address c = search needs
+
+number-at-requires : tie.Need-number-at-requires
+number-at-requires c κs = search needs
+
+partition-of-requires : tie.Need-partition-of-requires
+partition-of-requires c κs = search needs
+
+rights-requires : tie.Need-rights-requires
+rights-requires c κs = search needs
+
+returns : tie.Need-returns
+returns c =
+    let t = c .before in
+    zero-block primitives map1 map1-fit _ _ (at t) (start t .pre .0) (known t) (lockable t (c .if1 .taken))
+
+mul-join : tie.Need-mul-join
+mul-join c = search needs
+
+sub-join : tie.Need-sub-join
+sub-join c = search needs
+
+part-join-start : tie.Need-part-join-start
+part-join-start c = search needs
+
+part-join-end : tie.Need-part-join-end
+part-join-end c = search needs
+
+join-requires : tie.Need-join-requires
+join-requires c κs = search needs
+
+split-requires : tie.Need-split-requires
+split-requires c κs = search needs
+
+returns-2 : tie.Need-returns-2
+returns-2 c =
+    let j = c .before .before .before in
+    let t = j .before .before .before in
+    c .split .ensures
+    ∙ ap (wordsOf 4) (joined j)
+    ∙ digest-block primitives map1 map1-fit _ _ (at t) (start t .pre .0) (known t) (small t) (lockable t (j .before .before .if1 .left)) (side t (le-leb _ _ (c .before .if2 .taken)))
+
+unscrambled-requires : tie.Need-unscrambled-requires
+unscrambled-requires c κs = search needs
+
+split-requires-2 : tie.Need-split-requires-2
+split-requires-2 c κs = search needs
+
+returns-3 : tie.Need-returns-3
+returns-3 c =
+    let j = c .before .before .before .before in
+    let t = j .before .before .before in
+    let block = ap₂ (unscrambled primitives map1 (start t .args .constants .now)) (found t) (joined j) in
+    c .split2 .ensures
+    ∙ ap (wordsOf 4) (c .before .unscrambled .ensures ∙ block)
+    ∙ data-block primitives map1 map1-fit _ _ (at t) (start t .pre .0) (known t) (small t) (lockable t (j .before .before .if1 .left)) (side t (lt-leb _ _ (c .before .before .if2 .left)))
+
+pub sensed-block-spec : {M : Type 1} → statement M
+sensed-block-spec =
+    tie.close
+    (tie.spec
+    mul-address
+    number-at-requires
+    partition-of-requires
+    rights-requires
+    returns
+    mul-join
+    sub-join
+    part-join-start
+    part-join-end
+    join-requires
+    split-requires
+    returns-2
+    unscrambled-requires
+    split-requires-2
+    returns-3)

@@ -1,0 +1,68 @@
+-- A failed check ends the power-up; else the life cycle decides.
+use mathlib.Core.Path.{_≡_, sym, ap, _∙_}
+use lib.ListN.{length}
+use Rattle.basics.specs.Range.{listed}
+use Rattle.partitions.specs.Map1.{map1}
+use Rattle.model.specs.Lent.{Lent}
+use Rattle.model.specs.PowerUp.{waking}
+use Rattle.chip.specs.Chip.{primitives}
+use Rattle.power_up.specs.Waking.{lentOf}
+use Rattle.power_up.proofs.Waking.{woken-as, dead-result, failed, passed}
+use borrow.Author.Needs.{needs}
+use Rattle.power_up.proofs.woken.Statement.{statement}
+use Rattle.power_up.proofs.woken.Tie as tie
+
+module _ (t : tie.After-first-failing) where
+  abbrev start : tie.Start
+  start = t .before .before .before .before
+
+  abbrev lent : Lent
+  lent = lentOf (start .args .cells .now) (start .args .copy .now) (start .args .constants .now)
+
+first-failing-requires : tie.Need-first-failing-requires
+first-failing-requires c κs = search needs
+
+enum-known-number : tie.Need-enum-known-number
+enum-known-number c = search needs
+
+dead-requires : tie.Need-dead-requires
+dead-requires c κs = search needs
+
+enum-told : tie.Need-enum-told
+enum-told c = search needs
+
+live-requires : tie.Need-live-requires
+live-requires c κs = search needs
+
+same-length : tie.Need-same-length
+same-length c = search needs
+
+returns : tie.Need-returns
+returns c =
+    let d = c .before .before in
+    let t = d .before .before .before .before .before in
+    let zeros = d .dead .ensures .0 ∙ ap (listed (λ j. 0) 0) (start t .pre .1) in
+    dead-result _ _ (lent t) zeros (d .dead .ensures .1) ∙ sym (woken-as (waking primitives map1) (lent t) (failed (lent t) _ (sym (d .before .before .before .number .given .1) ∙ t .first-failing .ensures)))
+
+same-length-2 : tie.Need-same-length-2
+same-length-2 c = search needs
+
+returns-2 : tie.Need-returns-2
+returns-2 c =
+    let v = c .before .before in
+    let t = v .before .before .before .before in
+    v .live .ensures ∙ sym (woken-as (waking primitives map1) (lent t) (passed (lent t) (sym (v .before .before .enum-told .given .1) ∙ t .first-failing .ensures)))
+
+pub woken-spec : {M : Type 1} → statement M
+woken-spec =
+    tie.close
+    (tie.spec
+    first-failing-requires
+    enum-known-number
+    dead-requires
+    enum-told
+    live-requires
+    same-length
+    returns
+    same-length-2
+    returns-2)

@@ -1,0 +1,47 @@
+-- Four bytes, and four bytes above them.
+use native.Mathlib.Omega.{arith}
+use borrow.Author.Needs.{needs}
+use Rattle.script.proofs.Numbers.{eight-bytes}
+use Rattle.script.proofs.eight_at.Statement.{statement}
+use Rattle.script.proofs.eight_at.Tie as tie
+use Rattle.script.proofs.eight_at.Reads as reads
+use Rattle.script.proofs.eight_at.Lts as lts
+use Rattle.script.proofs.four_at.Reads as four-at-reads
+use Rattle.script.proofs.wider.Reads as wider-reads
+
+four-at-requires : tie.Need-four-at-requires
+four-at-requires c κs = search needs
+
+wider-requires : tie.Need-wider-requires
+wider-requires c κs = search needs
+
+add-four-at : tie.Need-add-four-at
+add-four-at c = search needs
+
+four-at-requires-2 : tie.Need-four-at-requires-2
+four-at-requires-2 c κs = search needs
+
+wider-requires-2 : tie.Need-wider-requires-2
+wider-requires-2 c κs = search needs
+
+mul-result : tie.Need-mul-result
+mul-result c = search needs
+
+add-result : tie.Need-add-result
+add-result c = search needs
+
+returns : tie.Need-returns
+returns c = rw eight-bytes (omega arith)
+
+pub eight-at-spec : {M : Type 1} → statement M
+eight-at-spec =
+    tie.close
+    (tie.spec
+    four-at-requires
+    wider-requires
+    add-four-at
+    four-at-requires-2
+    wider-requires-2
+    mul-result
+    add-result
+    returns)

@@ -1,0 +1,83 @@
+-- A count has at most 20 digits, so that its line fits; the part lent holds just its digits.
+use mathlib.Core.Path.{_≡_, sym, ap₂, _∙_}
+use mathlib.Core.List.{List}
+use Prim.Native.Nat.{ℕ, _≤_, _+_, _-_}
+use native.Mathlib.Omega.{arith}
+use lib.ListN.{length, take}
+use lib.Seq.{length-take-le}
+use borrow.Author.Needs.{needs}
+use Rattle.script.specs.declared.EndLine.{EndLine}
+use Rattle.script.proofs.Lines.{decimal-short, zeros, end-length, end-written}
+use Rattle.script.proofs.end_line.Statement.{statement}
+use Rattle.script.proofs.end_line.Tie as tie
+use Rattle.script.proofs.end_line.Reads as reads
+use Rattle.script.proofs.end_line.Lts as lts
+use Rattle.script.proofs.decimal_length.Reads as decimal-length-reads
+use Rattle.script.proofs.put_digits.Reads as put-digits-reads
+
+array-write-bytes : tie.Need-array-write-bytes
+array-write-bytes c = search needs
+
+array-write-bytes-2 : tie.Need-array-write-bytes-2
+array-write-bytes-2 c = search needs
+
+array-write-bytes-3 : tie.Need-array-write-bytes-3
+array-write-bytes-3 c = search needs
+
+array-write-bytes-4 : tie.Need-array-write-bytes-4
+array-write-bytes-4 c = search needs
+
+decimal-length-requires : tie.Need-decimal-length-requires
+decimal-length-requires c κs = search needs
+
+add-end : tie.Need-add-end
+add-end c = let b : c .decimal-length .result ≤ 20 = rw (c .decimal-length .ensures) (decimal-short 20 _) in omega arith
+
+sub-put-digits : tie.Need-sub-put-digits
+sub-put-digits c = search needs
+
+part-bytes-start : tie.Need-part-bytes-start
+part-bytes-start c = search needs
+
+part-bytes-end : tie.Need-part-bytes-end
+part-bytes-end c = let b : c .decimal-length .result ≤ 20 = rw (c .decimal-length .ensures) (decimal-short 20 _) in omega arith
+
+put-digits-requires : tie.Need-put-digits-requires
+put-digits-requires c κs = search needs
+
+array-write-bytes-5 : tie.Need-array-write-bytes-5
+array-write-bytes-5 c = let b : c .before .before .before .decimal-length .result ≤ 20 = rw (c .before .before .before .decimal-length .ensures) (decimal-short 20 _) in omega arith
+
+add-t12 : tie.Need-add-t12
+add-t12 c = let b : c .before .before .before .decimal-length .result ≤ 20 = rw (c .before .before .before .decimal-length .ensures) (decimal-short 20 _) in omega arith
+
+abbrev made : List ℕ → ℕ → EndLine
+made bytes len = record { bytes = bytes; len = len }
+
+returns : tie.Need-returns
+returns c =
+    let x = c .before .before .before .before .args .count in
+    let n = c .before .before .before .decimal-length .result in
+    let e = c .before .before .before .decimal-length .ensures in
+    let b : n ≤ 20 = rw e (decimal-short 20 x) in
+    let q : 4 + n - 4 ≡ n = omega arith in
+    let w : length (take n (zeros 21)) ≡ n = length-take-le n (zeros 21) (omega arith) in
+    ap₂ made (rw (c .before .put-digits .ensures, q, w) (end-written n x (omega arith) e)) (omega (arith, end-length x, e))
+
+pub end-line-spec : {M : Type 1} → statement M
+end-line-spec =
+    tie.close
+    (tie.spec
+    array-write-bytes
+    array-write-bytes-2
+    array-write-bytes-3
+    array-write-bytes-4
+    decimal-length-requires
+    add-end
+    sub-put-digits
+    part-bytes-start
+    part-bytes-end
+    put-digits-requires
+    array-write-bytes-5
+    add-t12
+    returns)

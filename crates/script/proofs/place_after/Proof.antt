@@ -1,0 +1,27 @@
+-- A record holds the next place; any other answer keeps the place.
+use mathlib.Core.Path.{_≡_, sym, ap, _∙_}
+use borrow.Author.Needs.{needs}
+use Rattle.script.specs.declared.Reading.{Reading}
+use Rattle.script.specs.Records.{placeAfter}
+use Rattle.script.proofs.Records.{other-place}
+use Rattle.script.proofs.place_after.Statement.{statement}
+use Rattle.script.proofs.place_after.Tie as tie
+
+next-at-requires : tie.Need-next-at-requires
+next-at-requires c κs = search needs
+
+enum-known-next : tie.Need-enum-known-next
+enum-known-next c = search needs
+
+returns : tie.Need-returns
+returns c =
+    let p = c .before .before .before .args .place in
+    other-place (c .before .next-at .result) p (c .match .keys2) ∙ ap (λ (n : Reading). placeAfter n p) (c .before .next-at .ensures)
+
+returns-2 : tie.Need-returns-2
+returns-2 c =
+    let p = c .before .before .before .before .before .args .place in
+    ap (λ (n : Reading). placeAfter n p) (sym (c .before .next .given .1) ∙ c .before .before .before .next-at .ensures)
+
+pub place-after-spec : {M : Type 1} → statement M
+place-after-spec = tie.close (tie.spec next-at-requires enum-known-next returns returns-2)
