@@ -153,7 +153,7 @@ module _ (prims : Primitives) (map : Map) (F : fit map ≡ true) where
   unfolding lifeCycleWaking wokenAnswer
   life-wakes Invalid Q h = λ e. absurd (omega arith)
   life-wakes (Valid state count) Q h =
-      if-both (λ (w : Waking). codeOf (wokenAnswer prims map w) ≡ 0x00 → Q w) (eqb state 20) _ _ (λ t e. absurd (omega arith)) (λ t e. h state count)
+      if-both (λ (w : Waking). codeOf (wokenAnswer prims map w) ≡ 0x00 → Q w) _ _ _ (λ t e. absurd (omega arith)) (λ t e. h state count)
 
   waking-wakes : (verdict : Option ℕ) (life : LifeCycle) (Q : Waking → Type 0) → ((state count : ℕ) → Q (wakes state count))
       → codeOf (wokenAnswer prims map (wakingOf verdict life)) ≡ 0x00 → Q (wakingOf verdict life)

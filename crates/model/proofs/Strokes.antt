@@ -181,7 +181,7 @@ module _ (prims : Primitives) (map : Map) (F : fit map ≡ true) where
   woken-living none Invalid l = λ e. absurd (true-not-false e refl)
   woken-living none (Valid state count) l =
       if-both (λ (w : Waking). isReady (wokenSession prims map w l .phase) ≡ true → Valid state count ≡ Valid (wokenSession prims map w l .state) (wokenSession prims map w l .count))
-      (eqb state 20) _ _ (λ t e. absurd (true-not-false e refl)) (λ t e. refl)
+      _ _ _ (λ t e. absurd (true-not-false e refl)) (λ t e. refl)
 
   -- what is decoded depends on the life cycle words alone
   life-same : (c d copy copy′ t : List ℕ)

@@ -1,6 +1,6 @@
 -- The digest checks by partition number. The idea: the checks from a number on are the first of them and those from the next number on.
-use mathlib.Core.Path.{_≡_, refl, sym}
-use mathlib.Core.Bool.{Bool, true, false, not, _||_}
+use mathlib.Core.Path.{_≡_}
+use mathlib.Core.Bool.{true, false}
 use mathlib.Core.List.{List}
 use mathlib.Core.Option.{none, some}
 use Prim.Native.Nat.{ℕ, suc, _≤_, _<_}
@@ -8,8 +8,7 @@ use native.Mathlib.Omega.{arith}
 use lib.Dec.{eqb}
 use lib.ListN.{length, drop, drop-of-length-le}
 use lib.Seq.{drop-cons}
-use borrow.Author.Tests.{eq-eqb, ne-eqb}
-use Rattle.basics.specs.Choice.{if_then_else_}
+use borrow.Author.Tests.{ne-eqb}
 use Rattle.basics.proofs.Choice.{if-true, if-false}
 use Rattle.partitions.specs.declared.Partition.{Partition}
 use Rattle.partitions.specs.Map.{Map, rightsOf, nowhere, partition, limit}
@@ -43,7 +42,6 @@ module _ (prims : Primitives) (map : Map) (constants cells : List ℕ) where
   compared p e z = rw (e, ne-eqb (storedDigest p cells) 0 z)
 
   -- ---- all of them
-
 
   pub check-next : (n : ℕ) → n < length map → digestHolds prims map constants cells (partition map n) ≡ true
       → firstFailing prims map constants cells n (drop n map) ≡ firstFailing prims map constants cells (suc n) (drop (suc n) map)

@@ -9,7 +9,6 @@ use lib.Dec.{leb}
 use lib.ListN.{length, getD, set, length-set}
 use lib.Seq.{sets, ext-getD}
 use borrow.Author.Tests.{leb-true, leb-false, le-leb, lt-leb}
-use Rattle.basics.specs.Choice.{if_then_else_}
 use Rattle.basics.specs.Range.{listed}
 use Rattle.basics.proofs.Choice.{by-cases, if-true, if-false}
 use Rattle.basics.proofs.Range.{length-listed, listed-at, listed-from, set-more}
@@ -17,7 +16,7 @@ use Rattle.words.specs.Words.{numberOf, wordsOf, partAt}
 use Rattle.words.proofs.Words.{Words, length-words, words-number}
 use Rattle.words.proofs.Parts.{length-part}
 use Rattle.partitions.specs.declared.Partition.{Partition}
-use Rattle.partitions.specs.Map.{Map, rightsOf, numberAt, partitionAt, limit, inDigest, firstWord}
+use Rattle.partitions.specs.Map.{Map, rightsOf, partitionAt, limit, inDigest, firstWord}
 use Rattle.partitions.specs.Fitness.{fit}
 use Rattle.partitions.proofs.Map.{inside, only, partition-at}
 use Rattle.partitions.proofs.Granules.{granule-scrambled, size-words}
@@ -25,9 +24,10 @@ use Rattle.model.specs.Lent.{Primitives}
 use Rattle.model.specs.Commands.{unscrambled}
 use Rattle.model.specs.PowerUp.{copyWord}
 
--- ---- lists by a rule that doesn't start at 0
+-- ---- lists and words
 
-pub is-listed-from : (f : ℕ → ℕ) (i n : ℕ) (xs : List ℕ) → length xs ≡ n → ((k : ℕ) → k < n → getD xs k 0 ≡ f (i + k)) → xs ≡ listed f i n
+-- a list whose entries follow a rule from a later number on
+is-listed-from : (f : ℕ → ℕ) (i n : ℕ) (xs : List ℕ) → length xs ≡ n → ((k : ℕ) → k < n → getD xs k 0 ≡ f (i + k)) → xs ≡ listed f i n
 is-listed-from f i n xs e h =
     ext-getD 0 xs (listed f i n) (e ∙ sym (length-listed f i n)) (λ k l. let m : k < n = rw e at l in h k m ∙ sym (listed-from f 0 i n k m))
 
@@ -67,15 +67,13 @@ module _ (prims : Primitives) (map : Map) (fits : fit map ≡ true) (constants c
         let f = i .fits in
         partition-at map (2 * (at + k)) (only map fits (i .known) (omega (arith, i .from)) (before-eight at k _ h aligned (f .end-aligned) (i .below)))
 
-    side : (p : Partition) → p .digest % 8 ≡ 0 → inDigest p (2 * (at + k)) ≡ inDigest p (2 * at)
-    unfolding inDigest
-    side p e =
-        by-cases (leb (p .digest) (2 * at))
-        (λ t. le-leb (p .digest) (2 * (at + k)) (omega (arith, leb-true)) ∙ sym t)
-        (λ t. lt-leb (p .digest) (2 * (at + k)) (before-eight at k _ h aligned e (leb-false _ _ t)) ∙ sym t)
-
     same-side : inDigest here (2 * (at + k)) ≡ inDigest here (2 * at)
-    same-side = side here (inside map fits known .fits .digest-aligned)
+    unfolding inDigest
+    same-side =
+        let e = inside map fits known .fits .digest-aligned in
+        by-cases (leb (here .digest) (2 * at))
+        (λ t. le-leb (here .digest) (2 * (at + k)) (omega (arith, leb-true)) ∙ sym t)
+        (λ t. lt-leb (here .digest) (2 * (at + k)) (before-eight at k _ h aligned e (leb-false _ _ t)) ∙ sym t)
 
     first-word : rightsOf (here .kind) .scrambled ≡ true → firstWord here (2 * (at + k)) ≡ at
     first-word s = size-words here (2 * (at + k)) 8 (granule-scrambled (inside map fits known .fits) s (2 * (at + k))) .0 ∙ omega arith

@@ -1,11 +1,10 @@
 -- How a power-up ends, against what the code finds. The idea: once it is known how it ends, the definitions compute at Map 1.
 use mathlib.Core.Path.{_≡_, refl, sym, ap, ap₂, _∙_}
-use mathlib.Core.Bool.{Bool, true, false}
+use mathlib.Core.Bool.{false}
 use mathlib.Core.List.{List, [], _∷_}
 use mathlib.Core.Option.{Option, none, some}
-use Prim.Native.Nat.{ℕ, _+_, _*_, _/_}
+use Prim.Native.Nat.{ℕ, _+_, _*_}
 use native.Mathlib.Omega.{arith}
-use lib.Dec.{eqb}
 use lib.ListN.{length, take, drop}
 use borrow.Author.Tests.{eq-eqb, ne-eqb}
 use Rattle.basics.specs.Choice.{if_then_else_}
@@ -22,7 +21,6 @@ use Rattle.life_cycle.specs.Words.{decoded}
 use Rattle.model.specs.declared.Reason.{Reason}
 use Rattle.model.specs.declared.Reason.the-variants as reason
 use Rattle.model.specs.declared.Phase.the-variants.{Ready}
-use Rattle.model.specs.declared.Session.{Session}
 use Rattle.model.specs.declared.Answer.{Answer}
 use Rattle.model.specs.declared.Answer.the-variants as answer
 use Rattle.model.specs.declared.Command.the-variants.{PowerUp}
@@ -30,10 +28,10 @@ use Rattle.model.specs.declared.Outcome.{Outcome}
 use Rattle.model.specs.Lent.{Lent, Machine}
 use Rattle.model.specs.Commands.{storedDigest, counterAt, stateAt}
 use Rattle.model.specs.PowerUp.{digests, noLocks, Waking, fails, wakes, lifeCycleWaking, wakingOf, firstFailing, verdictOf, lifeCycleIn, copyWord, wokenCopy, wokenSession, wokenAnswer, waking}
-use Rattle.model.specs.Step.{Result, obey, powerUp}
-use Rattle.chip.specs.Chip.{primitives, machineOf, resultOf}
+use Rattle.model.specs.Step.{obey, powerUp}
+use Rattle.chip.specs.Chip.{primitives, resultOf}
 use Rattle.power_up.specs.declared.Verdict.the-variants.{Passed, Failed}
-use Rattle.power_up.specs.Waking.{verdictIn, lentOf, wokenResult, deadOutcome}
+use Rattle.power_up.specs.Waking.{verdictIn, wokenResult, deadOutcome}
 
 -- ---- Map 1: six partitions have digests, and the life cycle words stand last
 

@@ -20,10 +20,13 @@ ghost use Rattle.model.specs.PowerUp.{digests, digestHolds, firstFailing, copyW
 ghost use Rattle.chip.specs.Chip.{primitives, machineOf, resultOf, resultFor};
 ghost use Rattle.power_up.specs.Waking.{verdictIn, lentOf, wokenResult, deadOutcome};
 
-// Where the life cycle's counter words and state words start.
+// Where the 24 counter words and the 20 state words of the life cycle start.
 const COUNTER: usize = LifeCyclePartition::START / 2;
 
 const STATE: usize = COUNTER + 24;
+
+// No partition is read-locked after a power-up, however it ends.
+const UNLOCKED: [bool; 2] = [false, false];
 
 // The value for a life cycle that is not valid.
 const INVALID: u64 = 0xFFFF;
@@ -76,13 +79,13 @@ fn first_failing(cells: &[u16], constants: &[u16]) -> Verdict
     Verdict::Passed
 }
 
-// The stored digests of partitions 0 to 5.
+// The stored digests of the partitions before LIFE_CYCLE, which has none.
 fn stored_digests(cells: &[u16]) -> [u64; 6]
     ensures { λ r. ⌜ r ≡ digests (λ p. storedDigest p (now (cells .entry))) map1 ⌝ }
 {
     let mut digests = [0u64; 6];
     let mut number = 0;
-    while number < 6 {
+    while number < LifeCyclePartition::NUMBER {
         digests[number] = chip::stored_digest(cells, partitions::partition_of(number));
         number += 1;
     }
@@ -144,7 +147,7 @@ fn dead(copy: &mut [u16], reason: Reason, answer: Answer) -> Outcome
     let session = Session {
         phase: Phase::Dead(reason),
         sensed: [0, 0, 0, 0, 0, 0],
-        locks: [false, false],
+        locks: UNLOCKED,
         state: 0,
         count: 0,
     };
@@ -168,7 +171,7 @@ fn ready(cells: &[u16], copy: &mut [u16], constants: &[u16], state: u8, count: u
     let session = Session {
         phase: Phase::Ready,
         sensed,
-        locks: [false, false],
+        locks: UNLOCKED,
         state,
         count,
     };

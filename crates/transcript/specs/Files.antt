@@ -9,7 +9,7 @@ use Rattle.basics.specs.Choice.{if_then_else_}
 unfoldable pub pairs : List ℕ → List ℕ
 pairs [] = []
 pairs (low ∷ []) = []
-pairs (low ∷ high ∷ bytes) = low + 256 * high ∷ pairs bytes
+pairs (low ∷ high ∷ bytes) = (low + 256 * high) ∷ pairs bytes
 
 -- a file of an odd length is no array of words: it counts as empty, which is a wrong length too
 unfoldable pub fileWords : List ℕ → List ℕ

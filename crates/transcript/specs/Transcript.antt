@@ -31,12 +31,13 @@ refusedKind script TooLong place = 0
 unfoldable pub linesFrom : ℕ → List ℕ → ℕ → Machine → List Line
 linesFrom zero script place m = []
 linesFrom (suc n) script place m =
-    elim (nextAt script place)
-    [ Record command next ↦
-      let r = resultFor command m in
-      record { kind = kindOf command; code = codeOf (r .answer); value = valueOf (r .answer) } ∷ linesFrom n script next (r .machine)
-    | End ↦ []
-    | Refused refusal at ↦ record { kind = refusedKind script refusal at; code = refusalCode refusal; value = at } ∷ [] ]
+    elim (nextAt script place) [
+      | Record command next ↦
+          let r = resultFor command m in
+          record { kind = kindOf command; code = codeOf (r .answer); value = valueOf (r .answer) } ∷ linesFrom n script next (r .machine)
+      | End ↦ []
+      | Refused refusal at ↦ record { kind = refusedKind script refusal at; code = refusalCode refusal; value = at } ∷ []
+    ]
 
 -- "The program runs standard input, from a fresh record, over fixed-name image and constants files"
 abbrev pub chipOf : List ℕ → List ℕ → Machine

@@ -1,14 +1,16 @@
 -- One turn: the next record is read and executed, and gives a line; or the script ends, or a refusal's line is the last.
-use Prim.Native.Nat.{ℕ}
-use mathlib.Core.List.{List}
+use Prim.Native.Nat.{ℕ, zero, suc, _+_}
+use mathlib.Core.List.{List, _++_}
 use lib.ListN.{replicate}
 use Rattle.model.specs.Answers.{codeOf, valueOf}
+use Rattle.model.specs.declared.Session.{Session}
 use Rattle.model.specs.Lent.{Machine}
 use Rattle.chip.specs.Chip.{machineOf, resultFor}
+use Rattle.script.specs.declared.Refusal.{Refusal}
 use Rattle.script.specs.declared.Reading.{Reading}
 use Rattle.script.specs.declared.Reading.the-variants.{Record, End, Refused}
 use Rattle.script.specs.Records.{kindOf, refusalCode, nextAt}
-use Rattle.script.specs.Lines.{lineOf}
+use Rattle.script.specs.Lines.{lineOf, endLine}
 use Rattle.transcript.specs.declared.Course.{Course}
 use Rattle.transcript.specs.declared.Course.the-variants.{Goes, Stops, Ends}
 use Rattle.transcript.specs.declared.Turned.{Turned}
@@ -35,3 +37,33 @@ turnOf script place m = turnBy (nextAt script place) script place m
 -- what is lent after a turn, with what it gave back
 abbrev pub turnWith : List ℕ → List ℕ → List ℕ → Turned → Turn
 turnWith cells copy constants t = record { machine = machineOf cells copy constants (t .session); course = t .course; place = t .place; line = t .line }
+
+-- ---- what a turn that found no record gives back
+
+abbrev pub endedAt : ℕ → Session → Turned
+endedAt place session = record { session = session; course = Ends; place = place; line = replicate 23 0 }
+
+abbrev pub refusedAt : Refusal → ℕ → List ℕ → ℕ → Session → Turned
+refusedAt refusal at script place session =
+    record { session = session; course = Stops; place = place; line = lineOf (refusedKind script refusal at) (refusalCode refusal) at }
+
+-- a record does not come here; it counts as the end
+abbrev pub stoppedOf : Reading → List ℕ → ℕ → Session → Turned
+stoppedOf (Record command next) script place session = endedAt place session
+stoppedOf End script place session = endedAt place session
+stoppedOf (Refused refusal at) script place session = refusedAt refusal at script place session
+
+-- ---- turns one after the other, as the bench program takes them
+
+-- what is printed from a turn on, after `count` lines: its line and the rest, its line and the end line, or the end line
+unfoldable pub afterTurn : Course → List ℕ → ℕ → List ℕ → List ℕ
+afterTurn Goes line count rest = line ++ rest
+afterTurn Stops line count rest = line ++ endLine (count + 1)
+afterTurn Ends line count rest = endLine count
+
+-- at most n turns
+unfoldable pub turnsFrom : ℕ → List ℕ → ℕ → Machine → ℕ → List ℕ
+turnsFrom zero script place m count = endLine count
+turnsFrom (suc n) script place m count =
+    let t = turnOf script place m in
+    afterTurn (t .course) (t .line) count (turnsFrom n script (t .place) (t .machine) (count + 1))

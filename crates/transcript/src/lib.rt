@@ -1,13 +1,17 @@
-// A rehearsal in turns: each reads the next record of a script, executes it and makes its line.
+// A rehearsal in turns: each reads the next record of a script, executes it and makes its line. And the files of words.
+
 use model::Session;
 use script::Reading;
 use script::Refusal;
 ghost use mathlib.Core.Path.{_≡_};
-ghost use lib.ListN.{length, take};
+ghost use mathlib.Core.List.{_++_};
+ghost use Prim.Native.Nat.{_+_, _*_};
+ghost use lib.ListN.{length, drop};
 ghost use Rattle.chip.specs.Chip.{machineOf};
-ghost use Rattle.transcript.specs.Files.{fileWords};
+ghost use Rattle.script.specs.Records.{byteAt};
+ghost use Rattle.transcript.specs.Files.{lentWords};
 ghost use Rattle.transcript.specs.Transcript.{refusedKind};
-ghost use Rattle.transcript.specs.Turns.{turnOf, turnWith};
+ghost use Rattle.transcript.specs.Turns.{endedAt, refusedAt, stoppedOf, turnOf, turnWith};
 
 // How a rehearsal goes on: with a line and more to come, with a last line, or with the script's end and no line.
 pub enum Course {
@@ -24,6 +28,12 @@ pub struct Turned {
     pub line: [u8; 23],
 }
 
+fn byte_at(script: &[u8], at: usize) -> u8
+    ensures { λ r. ⌜ r ≡ byteAt (now (script .entry)) at ⌝ }
+{
+    if at < script.len() { script[at] } else { 0 }
+}
+
 // The kind that a refusal's line begins with: the byte as read, and 0 for a script that is too long.
 fn refused_kind(script: &[u8], refusal: Refusal, place: usize) -> u8
     ensures { λ r. ⌜ r ≡ refusedKind (now (script .entry)) refusal place ⌝ }
@@ -34,4 +44,88 @@ fn refused_kind(script: &[u8], refusal: Refusal, place: usize) -> u8
         Refusal::TooLong => 0,
     }
 }
-// (byte_at, turn, stopped and file_words follow)
+
+fn ended(place: usize, session: Session) -> Turned
+    ensures { λ r. ⌜ r ≡ endedAt place session ⌝ }
+{
+    Turned {
+        session,
+        course: Course::Ends,
+        place,
+        line: [0; 23],
+    }
+}
+
+fn refused(script: &[u8], place: usize, refusal: Refusal, at: usize, session: Session) -> Turned
+    ensures { λ r. ⌜ r ≡ refusedAt refusal at (now (script .entry)) place session ⌝ }
+{
+    let line = script::line(refused_kind(script, refusal, at), refusal.code(), at as u64);
+    Turned {
+        session,
+        course: Course::Stops,
+        place,
+        line,
+    }
+}
+
+// A turn that found no record: it leaves the place and the session as they were.
+fn stopped(script: &[u8], place: usize, reading: Reading, session: Session) -> Turned
+    ensures { λ r. ⌜ r ≡ stoppedOf reading (now (script .entry)) place session ⌝ }
+{
+    match reading {
+        Reading::Record(_, _) => ended(place, session),
+        Reading::End => ended(place, session),
+        Reading::Refused(refusal, at) => refused(script, place, refusal, at, session),
+    }
+}
+
+// Reads the record at a place, executes it and makes its line; or says that none is left, or why the script is not read on.
+pub fn turn(
+    script: &[u8],
+    place: usize,
+    cells: &mut [u16],
+    copy: &mut [u16],
+    constants: &[u16],
+    session: Session,
+) -> Turned
+    ensures { λ r. ⌜ turnWith (now (cells .exit)) (now (copy .exit)) (now (constants .entry)) r ≡ turnOf (now (script .entry)) place (machineOf (now (cells .entry)) (now (copy .entry)) (now (constants .entry)) session) ⌝ }
+{
+    let reading = script::next_at(script, place);
+    let Reading::Record(command, next) = reading else {
+        return stopped(script, place, reading, session);
+    };
+    let outcome = controller::execute(cells, copy, constants, session, command);
+    let answer = outcome.answer;
+    let after = outcome.session;
+    let line = script::line(script::kind_of(command), answer.code(), answer.value());
+    Turned {
+        session: after,
+        course: Course::Goes,
+        place: next,
+        line,
+    }
+}
+
+// The word of two bytes, the lowest first.
+fn word(low: u8, high: u8) -> u16
+    ensures { λ r. ⌜ r ≡ low + 256 * high ⌝ }
+{
+    (low as u16) + 256 * (high as u16)
+}
+
+// Fills words from the start with those of a file, and says how many they are: none where the file is no array of words, or has too many.
+pub fn file_words(bytes: &[u8], words: &mut [u16]) -> usize
+    ensures { λ r. ⌜ (r ≡ length (lentWords (length (now (words .entry))) (now (bytes .entry)))) × (now (words .exit) ≡ lentWords (length (now (words .entry))) (now (bytes .entry)) ++ drop r (now (words .entry))) ⌝ }
+{
+    let n = bytes.len() / 2;
+    if bytes.len() % 2 != 0 {
+        return 0;
+    }
+    if words.len() < n {
+        return 0;
+    }
+    for i in 0..n {
+        words[i] = word(bytes[2 * i], bytes[2 * i + 1]);
+    }
+    n
+}

@@ -1,8 +1,6 @@
 -- The slices are the life cycle words; each arm is one way that they decide.
 use mathlib.Core.Path.{_≡_, sym, ap, _∙_}
 use Prim.Native.Nat.{ℕ}
-use native.Mathlib.Omega.{arith}
-use lib.ListN.{length}
 use Rattle.basics.specs.Range.{listed}
 use Rattle.partitions.specs.Map1.{map1}
 use Rattle.model.specs.Lent.{Lent}

@@ -1,14 +1,9 @@
 -- A refusal changes nothing; what is accepted is powered up.
-use mathlib.Core.Path.{_≡_, sym, ap, _∙_}
-use lib.ListN.{length}
-use Rattle.partitions.specs.Map1.{map1}
+use mathlib.Core.Path.{sym, ap, _∙_}
 use Rattle.model.specs.declared.Command.the-variants.{PowerUp}
 use Rattle.model.specs.Lent.{Machine}
 use Rattle.model.specs.Step.{Step}
-use Rattle.chip.specs.declared.Judged.{Judged}
-use Rattle.chip.specs.declared.Judged.the-variants.{Accepted}
-use Rattle.chip.specs.Chip.{primitives, machineOf}
-use Rattle.chip.specs.Judging.{judgedOf}
+use Rattle.chip.specs.Chip.{machineOf}
 use Rattle.chip.proofs.Judging.{accepted-right, accepted-step, refused-step}
 use Rattle.power_up.proofs.Waking.{powered-up}
 use borrow.Author.Needs.{needs}

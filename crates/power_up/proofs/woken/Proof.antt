@@ -1,6 +1,5 @@
 -- A failed check ends the power-up; else the life cycle decides.
-use mathlib.Core.Path.{_≡_, sym, ap, _∙_}
-use lib.ListN.{length}
+use mathlib.Core.Path.{sym, ap, _∙_}
 use Rattle.basics.specs.Range.{listed}
 use Rattle.partitions.specs.Map1.{map1}
 use Rattle.model.specs.Lent.{Lent}

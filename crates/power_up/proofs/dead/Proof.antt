@@ -1,0 +1,17 @@
+-- The copy is what `clear` leaves; the outcome is read off the definition.
+use mathlib.Core.Path.{refl}
+use borrow.Author.Needs.{needs}
+use Rattle.power_up.proofs.dead.Statement.{statement}
+use Rattle.power_up.proofs.dead.Tie as tie
+
+clear-requires : tie.Need-clear-requires
+clear-requires c κs = search needs
+
+same-length : tie.Need-same-length
+same-length c = search needs
+
+returns : tie.Need-returns
+returns c = (c .before .before .clear .ensures, refl)
+
+pub dead-spec : {M : Type 1} → statement M
+dead-spec = tie.close (tie.spec clear-requires same-length returns)

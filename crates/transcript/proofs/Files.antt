@@ -1,0 +1,74 @@
+-- Laws of a file's words. The idea: word i is made of bytes 2 i and 2 i + 1, and a loop sets one word after the other.
+use Prim.Native.Nat.{ℕ, zero, suc, _+_, _*_, _/_, _%_, _≤_, _<_}
+use mathlib.Core.Path.{_≡_, refl, sym, ap, _∙_}
+use mathlib.Core.Bool.{true, false}
+use mathlib.Core.List.{List, [], _∷_, _++_}
+use native.Mathlib.Numerals.{add-one}
+use native.Mathlib.Omega.{arith}
+use lib.Dec.{eqb, leb}
+use lib.ListN.{length, getD, set, take, drop, length-append, length-take, length-drop}
+use lib.Seq.{take-suc, take-all, drop-cons, append-snoc, length-take-le, set-at}
+use borrow.Author.Tests.{le-leb, lt-leb}
+use Rattle.basics.proofs.Choice.{if-true, if-false, if-both}
+use Rattle.transcript.specs.Files.{pairs, fileWords, lentWords}
+
+pub pairs-length : (bytes : List ℕ) → length (pairs bytes) ≡ length bytes / 2
+unfolding pairs
+pairs-length [] = refl
+pairs-length (low ∷ []) = refl
+pairs-length (low ∷ high ∷ bytes) = omega (arith, pairs-length bytes)
+
+pub pair-at : (bytes : List ℕ) (i : ℕ) → i < length (pairs bytes) → getD (pairs bytes) i 0 ≡ getD bytes (2 * i) 0 + 256 * getD bytes (2 * i + 1) 0
+unfolding pairs
+pair-at [] i h = absurd (omega arith)
+pair-at (low ∷ []) i h = absurd (omega arith)
+pair-at (low ∷ high ∷ bytes) zero h = refl
+pair-at (low ∷ high ∷ bytes) (suc i) h =
+    let e : 2 * suc i ≡ suc (suc (2 * i)) = omega arith in
+    let o : 2 * suc i + 1 ≡ suc (suc (2 * i + 1)) = omega arith in
+    rw (o, e) (pair-at bytes i (omega arith))
+
+-- ---- which words a file lends
+
+module _ (room : ℕ) (bytes : List ℕ) where
+  pub lent-odd : eqb (length bytes % 2) 0 ≡ false → lentWords room bytes ≡ []
+  unfolding lentWords fileWords
+  lent-odd h = rw (if-false (pairs bytes) [] h) (if-both (λ (ws : List ℕ). ws ≡ []) (leb 0 room) [] [] (λ _. refl) (λ _. refl))
+
+  module _ (even : eqb (length bytes % 2) 0 ≡ true) where
+    file-even : fileWords bytes ≡ pairs bytes
+    unfolding fileWords
+    file-even = if-true _ _ even
+
+    pub lent-long : room < length bytes / 2 → lentWords room bytes ≡ []
+    unfolding lentWords
+    lent-long h = rw file-even (if-false _ _ (lt-leb (length (pairs bytes)) room (omega (arith, pairs-length bytes))))
+
+    pub lent-fits : length bytes / 2 ≤ room → lentWords room bytes ≡ pairs bytes
+    unfolding lentWords
+    lent-fits h = rw file-even (if-true _ _ (le-leb (length (pairs bytes)) room (omega (arith, pairs-length bytes))))
+
+-- ---- what `file_words` ends with
+
+-- the words after a file was lent
+abbrev Lent : ℕ → List ℕ → ℕ → List ℕ → List ℕ → Type 0
+Lent room bytes n old new = (n ≡ length (lentWords room bytes)) × (new ≡ lentWords room bytes ++ drop n old)
+
+pub none-lent : (room : ℕ) (bytes words : List ℕ) → lentWords room bytes ≡ [] → Lent room bytes 0 words words
+none-lent room bytes words e = rw e (refl, refl)
+
+module _ (ps words : List ℕ) (i : ℕ) (within : i ≤ length ps) (fits : length ps ≤ length words) (ws : List ℕ) (set-so-far : ws ≡ take i ps ++ drop i words) where
+  pub filled-length : length ws ≡ length words
+  filled-length = rw set-so-far (simp (length-append, length-take, length-drop) (omega arith))
+
+  pub filled-more : (v : ℕ) → i < length ps → v ≡ getD ps i 0 → set ws i v ≡ take (i + 1) ps ++ drop (i + 1) words
+  filled-more v h e =
+      rw (set-so-far, add-one, drop-cons words i 0 (omega arith), e)
+      (set-at (take i ps) (getD words i 0) (drop (suc i) words) (getD ps i 0) i (length-take-le i ps within)
+      ∙ sym (append-snoc (take i ps) (getD ps i 0) (drop (suc i) words))
+      ∙ ap (λ (ys : List ℕ). ys ++ drop (suc i) words) (sym (take-suc ps i 0 h)))
+
+  pub filled-whole : (n : ℕ) → n ≡ length ps → n ≤ i → ws ≡ ps ++ drop n words
+  filled-whole n e h =
+      let q : i ≡ n = omega arith in
+      set-so-far ∙ rw q (ap (λ (ys : List ℕ). ys ++ drop n words) (take-all n ps (omega arith)))

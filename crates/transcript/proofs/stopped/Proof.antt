@@ -1,0 +1,52 @@
+-- Each arm is `stoppedOf` at its reading.
+use mathlib.Core.Path.{_≡_, sym, ap, _∙_}
+use Rattle.script.specs.declared.Reading.{Reading}
+use Rattle.transcript.specs.Turns.{stoppedOf}
+use borrow.Author.Needs.{needs}
+use Rattle.transcript.proofs.stopped.Statement.{statement}
+use Rattle.transcript.proofs.stopped.Tie as tie
+
+enum-told : tie.Need-enum-told
+enum-told c = search needs
+
+ended-requires : tie.Need-ended-requires
+ended-requires c κs = search needs
+
+enum-told-2 : tie.Need-enum-told-2
+enum-told-2 c = search needs
+
+ended-requires-2 : tie.Need-ended-requires-2
+ended-requires-2 c κs = search needs
+
+enum-known-reading : tie.Need-enum-known-reading
+enum-known-reading c = search needs
+
+refused-requires : tie.Need-refused-requires
+refused-requires c κs = search needs
+
+by-reading : (s : tie.Start) {n : Reading} → s .args .reading ≡ n
+    → stoppedOf n (s .args .script .now) (s .args .place) (s .args .session) ≡ stoppedOf (s .args .reading) (s .args .script .now) (s .args .place) (s .args .session)
+by-reading s e = ap (λ (n : Reading). stoppedOf n (s .args .script .now) (s .args .place) (s .args .session)) (sym e)
+
+returns : tie.Need-returns
+returns c = c .ended .ensures ∙ by-reading (c .before .before .before .before) (c .before .enum-told .given .1)
+
+returns-2 : tie.Need-returns-2
+returns-2 c = c .ended2 .ensures ∙ by-reading (c .before .before .before .before) (c .before .enum-told2 .given .1)
+
+returns-3 : tie.Need-returns-3
+returns-3 c = c .refused .ensures ∙ by-reading (c .before .before .before .before .before) (c .before .before .reading .given .1)
+
+pub stopped-spec : {M : Type 1} → statement M
+stopped-spec =
+    tie.close
+    (tie.spec
+    enum-told
+    ended-requires
+    enum-told-2
+    ended-requires-2
+    enum-known-reading
+    refused-requires
+    returns
+    returns-2
+    returns-3)

@@ -1,0 +1,92 @@
+-- No record: the reading decides. A record: what `execute` made, with the line of its answer.
+use mathlib.Core.Path.{_≡_, sym, ap, _∙_}
+use Rattle.script.specs.declared.Reading.{Reading}
+use Rattle.model.specs.Lent.{Machine}
+use Rattle.chip.specs.Chip.{machineOf, resultOf}
+use Rattle.transcript.specs.Turns.{turnBy, turnOf}
+use Rattle.transcript.proofs.Turns.{turn-stopped, turn-goes}
+use borrow.Author.Needs.{needs}
+use Rattle.transcript.proofs.turn.Statement.{statement}
+use Rattle.transcript.proofs.turn.Tie as tie
+
+next-at-requires : tie.Need-next-at-requires
+next-at-requires c κs = search needs
+
+enum-known-reading : tie.Need-enum-known-reading
+enum-known-reading c = search needs
+
+stopped-requires : tie.Need-stopped-requires
+stopped-requires c κs = search needs
+
+abbrev start : tie.After-next-at → tie.Start
+start t = t .before .before .before .before .before
+
+returns : tie.Need-returns
+unfolding turnOf
+returns c =
+    let s = start (c .before .before) in
+    let n = c .before .before .next-at .result in
+    rw (c .stopped .ensures, ← c .before .before .next-at .ensures)
+    (turn-stopped n (s .args .script .now) (s .args .place) (s .args .cells .now) (s .args .copy .now) (s .args .constants .now) (s .args .session) (c .before .match .keys2))
+
+execute-requires : tie.Need-execute-requires
+execute-requires c κs = search needs
+
+kind-of-requires : tie.Need-kind-of-requires
+kind-of-requires c κs = search needs
+
+code-requires : tie.Need-code-requires
+code-requires c κs = search needs
+
+value-requires : tie.Need-value-requires
+value-requires c κs = search needs
+
+line-requires : tie.Need-line-requires
+line-requires c κs = search needs
+
+same-length : tie.Need-same-length
+same-length c = search needs
+
+same-length-2 : tie.Need-same-length-2
+same-length-2 c = search needs
+
+returns-2 : tie.Need-returns-2
+returns-2 c =
+    let x = c .before .before .before .before .before .before .before .before .before in
+    let found = x .before .before .before .before .reading .given in
+    let t = x .before .before .before .before .before .before in
+    let s = start t in
+    turn-goes
+    (s .args .script .now)
+    (s .args .place)
+    (machineOf (s .args .cells .now) (s .args .copy .now) (s .args .constants .now) (s .args .session))
+    (found .0 .0)
+    (found .0 .1 .0)
+    (resultOf (x .execute .last .0) (x .execute .last .1 .0) (s .args .constants .now) (x .execute .result))
+    (c .before .before .before .kind-of .result)
+    (c .before .before .code .result)
+    (c .before .value .result)
+    (c .line .result)
+    (sym (t .next-at .ensures) ∙ found .1)
+    (x .execute .ensures)
+    (c .before .before .before .kind-of .ensures)
+    (c .before .before .code .ensures)
+    (c .before .value .ensures)
+    (c .line .ensures)
+
+pub turn-spec : {M : Type 1} → statement M
+turn-spec =
+    tie.close
+    (tie.spec
+    next-at-requires
+    enum-known-reading
+    stopped-requires
+    returns
+    execute-requires
+    kind-of-requires
+    code-requires
+    value-requires
+    line-requires
+    same-length
+    same-length-2
+    returns-2)

@@ -1,0 +1,139 @@
+-- A transition as its code meets it, refusal by refusal. The idea: each of the paper's tests, once passed, leaves the next act.
+use mathlib.Core.Path.{_≡_, refl, sym, ap, _∙_}
+use mathlib.Core.Bool.{true, false, not, _&&_}
+use mathlib.Core.List.{List}
+use Prim.Native.Nat.{ℕ, suc, _+_, _*_, _^_, _≤_, _<_}
+use lib.Dec.{leb}
+use borrow.Author.Tests.{le-leb, lt-leb, lt-ltb, le-ltb}
+use Rattle.basics.specs.Choice.{if_then_else_}
+use Rattle.basics.proofs.Choice.{if-true, if-false}
+use Rattle.words.specs.declared.Programmed.the-variants as programmed
+use Rattle.words.specs.Programming.{programAnswer, programCells}
+use Rattle.words.proofs.Programming.{by-answer, stored-refused}
+use Rattle.partitions.specs.Map.{partition, numberOfKind, kindNumber}
+use Rattle.partitions.specs.Map1.{map1}
+use Rattle.life_cycle.specs.Words.{counterWords, stateWords}
+use Rattle.life_cycle.specs.Transitions.{transition}
+use Rattle.model.specs.declared.Session.{Session}
+use Rattle.model.specs.declared.Answer.{Answer}
+use Rattle.model.specs.declared.Answer.the-variants.{Done, Cleared, NotReady, UnknownTarget, StrokesUsed}
+use Rattle.model.specs.declared.Command.{Command}
+use Rattle.model.specs.declared.Command.the-variants.{Transition}
+use Rattle.model.specs.declared.Outcome.{Outcome}
+use Rattle.model.specs.Lent.{Machine}
+use Rattle.model.specs.Acts.{stay, halt, die, turned, Act, say, program, refuse}
+use Rattle.model.specs.Commands.{counterAt, stateAt, moveAct, entryAct, transitionAct, commandAct}
+use Rattle.chip.specs.declared.Judged.the-variants.{Accepted}
+use Rattle.chip.specs.Chip.{primitives, machineOf, resultOf, resultFor}
+use Rattle.chip.proofs.Acting.{admission, comesTo, said, program-done, program-refused, acted}
+use Rattle.transition.specs.declared.Permit.{Permit}
+use Rattle.transition.specs.declared.Permit.the-variants.{Granted, Refused}
+use Rattle.transition.specs.Permit.{permitOf, inert, dead, movedAs}
+use Rattle.transition.proofs.Tokens.{permittedAct, entering}
+
+pub counter-place : 404 ≡ counterAt primitives map1
+unfolding counterAt numberOfKind kindNumber partition map1 if_then_else_
+counter-place = refl
+
+pub state-place : 428 ≡ stateAt primitives map1
+unfolding stateAt
+state-place = ap (λ (n : ℕ). n + 24) counter-place
+
+-- admitted, with a record whose state and count are in range
+pub record Known (m : Machine) : Type 0 where
+  pub admitted-there : admission m ≡ Accepted
+  pub good-record : (leb (m .session .state) 20 && leb (m .session .count) 24) ≡ true
+
+-- and the target is known and a stroke is left
+pub record Spendable (m : Machine) (target : ℕ) : Type 0 where
+  pub known : Known m
+  pub target-known : target ≤ 20
+  pub stroke-left : m .session .count < 24
+
+module _ (copy k : List ℕ) (s : Session) where
+  halted : (cells : List ℕ) (b : Answer) → comesTo (say b halt) (machineOf cells copy k s) ≡ resultOf cells copy k (inert s b)
+  unfolding turned
+  halted cells b = said (machineOf cells copy k s) b halt
+
+  died : (cells : List ℕ) (cell : ℕ) → comesTo (say (Cleared cell) die) (machineOf cells copy k s) ≡ resultOf cells copy k (dead s cell)
+  unfolding turned
+  died cells cell = said (machineOf cells copy k s) (Cleared cell) die
+
+  -- the state words are programmed
+  moving : (cells : List ℕ) (m : Machine) (target : ℕ) → m .lent .constants ≡ k
+      → comesTo (moveAct primitives map1 m target) (machineOf cells copy k s)
+      ≡ resultOf (programCells cells (stateAt primitives map1) (stateWords k target)) copy k (movedAs s (programAnswer cells (stateAt primitives map1) (stateWords k target)))
+  unfolding moveAct
+  moving cells m target c =
+      let at = stateAt primitives map1 in
+      let ws = stateWords k target in
+      rw c
+      (by-answer (programAnswer cells at ws)
+      (λ e. program-done (machineOf cells copy k s) at ws die (say (Done 0) halt) e ∙ halted (programCells cells at ws) (Done 0) ∙ rw e)
+      (λ i e. program-refused (machineOf cells copy k s) at ws die (say (Done 0) halt) i e ∙ died cells i ∙ rw (e, stored-refused cells ws at i e)))
+
+module _ (cells copy k : List ℕ) (s : Session) (target high low : ℕ) where
+  abbrev x : Command
+  x = Transition target high low
+
+  abbrev m : Machine
+  m = machineOf cells copy k s
+
+  abbrev given : ℕ
+  given = high * 2 ^ 64 + low
+
+  -- the counter words of one stroke more
+  abbrev stroke : List ℕ
+  stroke = counterWords k (suc (s .count))
+
+  decided : admission m ≡ Accepted → (a : Act) → transitionAct primitives map1 m target given ≡ a → resultFor x m ≡ comesTo a m
+  unfolding commandAct
+  decided e a f = acted x m tt e ∙ ap (λ (a : Act). comesTo a m) f
+
+  pub bad-record : admission m ≡ Accepted → (leb (s .state) 20 && leb (s .count) 24) ≡ false → record { machine = m; answer = NotReady } ≡ resultFor x m
+  unfolding transitionAct turned
+  bad-record e r = sym (decided e (refuse NotReady) (if-true _ _ (ap not r)) ∙ said m NotReady stay)
+
+  module _ (q : Known m) where
+    pub unknown-target : 20 < target → record { machine = m; answer = UnknownTarget } ≡ resultFor x m
+    unfolding transitionAct turned
+    unknown-target h =
+        sym (decided (q .admitted-there) (refuse UnknownTarget) (if-false _ _ (ap not (q .good-record)) ∙ if-true _ _ (ap not (lt-leb _ _ h))) ∙ said m UnknownTarget stay)
+
+    pub strokes-used : target ≤ 20 → 24 ≤ s .count → (o : Outcome) → o ≡ inert s StrokesUsed → resultOf cells copy k o ≡ resultFor x m
+    unfolding transitionAct
+    strokes-used h l o f =
+        rw f (sym (decided (q .admitted-there) (say StrokesUsed halt) (if-false _ _ (ap not (q .good-record)) ∙ if-false _ _ (ap not (le-leb _ _ h)) ∙ if-true _ _ (ap not (le-ltb _ _ l))) ∙ halted copy k s cells StrokesUsed))
+
+  module _ (q : Spendable m target) where
+    spending : resultFor x m ≡ comesTo (program (counterAt primitives map1) stroke die (entryAct primitives map1 m (transition (s .state) target) target given)) m
+    unfolding transitionAct
+    spending =
+        let r = q .known in
+        decided (r .admitted-there) _ (if-false _ _ (ap not (r .good-record)) ∙ if-false _ _ (ap not (le-leb _ _ (q .target-known))) ∙ if-false _ _ (ap not (lt-ltb _ _ (q .stroke-left))))
+
+    -- the stroke is programmed, or a cell refuses
+    module _ (after : List ℕ) (c : after ≡ programCells cells (counterAt primitives map1) stroke) where
+      pub stroke-refused : (cell : ℕ) → programAnswer cells (counterAt primitives map1) stroke ≡ programmed.Refused cell
+          → (o : Outcome) → o ≡ dead s cell → resultOf after copy k o ≡ resultFor x m
+      stroke-refused cell e o f =
+          rw (f, c, stored-refused cells stroke (counterAt primitives map1) cell e)
+          (sym (spending ∙ program-refused m (counterAt primitives map1) stroke die _ cell e ∙ died copy k s cells cell))
+
+      module _ (e : programAnswer cells (counterAt primitives map1) stroke ≡ programmed.Done) where
+        asked : (p : Permit) → permitOf s copy k (transition (s .state) target) given ≡ p
+            → resultFor x m ≡ comesTo (permittedAct p (moveAct primitives map1 m target)) (machineOf after copy k s)
+        asked p f =
+            rw (c, ← f)
+            (spending
+            ∙ program-done m (counterAt primitives map1) stroke die _ e
+            ∙ entering m (machineOf (programCells cells (counterAt primitives map1) stroke) copy k s) target given (transition (s .state) target))
+
+        pub not-permitted : (b : Answer) → permitOf s copy k (transition (s .state) target) given ≡ Refused b → (o : Outcome) → o ≡ inert s b
+            → resultOf after copy k o ≡ resultFor x m
+        not-permitted b f o g = rw g (sym (asked (Refused b) f ∙ halted copy k s after b))
+
+        pub moved : permitOf s copy k (transition (s .state) target) given ≡ Granted → (end : List ℕ) (o : Outcome)
+            → o ≡ movedAs s (programAnswer after (stateAt primitives map1) (stateWords k target))
+            → end ≡ programCells after (stateAt primitives map1) (stateWords k target) → resultOf end copy k o ≡ resultFor x m
+        moved f end o g h = rw (g, h) (sym (asked Granted f ∙ moving copy k s after m target refl))

@@ -1,0 +1,60 @@
+-- First the lock, then the comparison with the eight words of the copy.
+use mathlib.Core.Path.{_≡_, sym, ap, _∙_}
+use Prim.Native.Nat.{ℕ, _+_, _*_, _^_}
+use lib.Dec.{eqb}
+use Rattle.words.specs.Words.{numberOf, partAt}
+use Rattle.partitions.specs.Map.{numberOfKind}
+use Rattle.partitions.specs.Map1.{map1}
+use Rattle.model.specs.Session.{sensedAt}
+use Rattle.model.specs.Commands.{tokenKind, tokenSame}
+use Rattle.transition.specs.Permit.{comparedAs}
+use Rattle.transition.proofs.Tokens.{not-locked, locked}
+use borrow.Author.Needs.{needs}
+use Rattle.transition.proofs.locked_permit.Statement.{statement}
+use Rattle.transition.proofs.locked_permit.Tie as tie
+
+lock-of-requires : tie.Need-lock-of-requires
+lock-of-requires c κs = search needs
+
+sensed-at-requires : tie.Need-sensed-at-requires
+sensed-at-requires c κs = search needs
+
+sensed : (t : tie.After-sensed-at) → let o = t .before .before .before .args in t .sensed-at .result ≡ sensedAt (o .session) (numberOfKind map1 (tokenKind (o .token)))
+sensed t = let o = t .before .before .before .args in t .sensed-at .ensures ∙ ap (sensedAt (o .session)) (t .before .lock-of .ensures)
+
+returns : tie.Need-returns
+returns c =
+    let o = c .before .before .before .before .args in
+    sym (not-locked (o .session) (o .copy .now) (o .token) _ (sym (sensed (c .before)) ∙ c .if1 .taken))
+
+place-of-requires : tie.Need-place-of-requires
+place-of-requires c κs = search needs
+
+eight-words-requires : tie.Need-eight-words-requires
+eight-words-requires c κs = search needs
+
+compared-requires : tie.Need-compared-requires
+compared-requires c κs = search needs
+
+returns-2 : tie.Need-returns-2
+unfolding tokenSame
+returns-2 c =
+    let w = c .before in
+    let t = w .before .before .before in
+    let o = t .before .before .before .args in
+    let given = o .high * 2 ^ 64 + o .low in
+    c .compared .ensures
+    ∙ ap (λ (x : ℕ). comparedAs (eqb x given)) (w .eight-words .ensures ∙ ap (λ (at : ℕ). numberOf (partAt (o .copy .now) at 8)) (w .before .place-of .ensures))
+    ∙ sym (locked (o .session) (o .copy .now) (o .token) given (λ e. w .before .before .if1 .left (sensed t ∙ e)))
+
+pub locked-permit-spec : {M : Type 1} → statement M
+locked-permit-spec =
+    tie.close
+    (tie.spec
+    lock-of-requires
+    sensed-at-requires
+    returns
+    place-of-requires
+    eight-words-requires
+    compared-requires
+    returns-2)

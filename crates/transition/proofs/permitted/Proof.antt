@@ -1,0 +1,132 @@
+-- Each arm is the definition at its entry and token.
+use mathlib.Core.Path.{_≡_, refl, sym, ap, _∙_}
+use Prim.Native.Nat.{ℕ, _+_, _*_, _^_}
+use lib.Dec.{eqb}
+use Rattle.life_cycle.specs.declared.Token.{Token}
+use Rattle.life_cycle.specs.declared.Token.the-variants.{Nothing, RawUnlock, TestUnlock, TestExit, Rma}
+use Rattle.life_cycle.specs.declared.Entry.{Entry}
+use Rattle.life_cycle.specs.Transitions.{transition}
+use Rattle.model.specs.Lent.{rawToken}
+use Rattle.transition.specs.declared.Permit.{Permit}
+use Rattle.transition.specs.Permit.{comparedAs, lockedPermit, tokenPermit, permitOf}
+use Rattle.transition.proofs.Tokens.{by-token}
+use borrow.Author.Needs.{needs}
+use Rattle.transition.proofs.permitted.Statement.{statement}
+use Rattle.transition.proofs.permitted.Tie as tie
+
+transition-requires : tie.Need-transition-requires
+transition-requires c κs = search needs
+
+enum-told : tie.Need-enum-told
+enum-told c = search needs
+
+enum-known-token : tie.Need-enum-known-token
+enum-known-token c = search needs
+
+enum-told-2 : tie.Need-enum-told-2
+enum-told-2 c = search needs
+
+enum-told-3 : tie.Need-enum-told-3
+enum-told-3 c = search needs
+
+eight-words-requires : tie.Need-eight-words-requires
+eight-words-requires c κs = search needs
+
+compared-requires : tie.Need-compared-requires
+compared-requires c κs = search needs
+
+enum-told-4 : tie.Need-enum-told-4
+enum-told-4 c = search needs
+
+locked-permit-requires : tie.Need-locked-permit-requires
+locked-permit-requires c κs = search needs
+
+enum-told-5 : tie.Need-enum-told-5
+enum-told-5 c = search needs
+
+locked-permit-requires-2 : tie.Need-locked-permit-requires-2
+locked-permit-requires-2 c κs = search needs
+
+enum-told-6 : tie.Need-enum-told-6
+enum-told-6 c = search needs
+
+locked-permit-requires-3 : tie.Need-locked-permit-requires-3
+locked-permit-requires-3 c κs = search needs
+
+abbrev start : tie.After-token → tie.Start
+start t = t .before .before .before .before .before
+
+abbrev given : tie.Start → ℕ
+given s = s .args .high * 2 ^ 64 + s .args .low
+
+-- an arm on the token that the table needs
+arm : (t : tie.After-token) (token : Token) (p : Permit) → let s = start t in t .token .given .0 .0 ≡ token
+    → p ≡ tokenPermit (s .args .session) (s .args .copy .now) (s .args .constants .now) token (given s)
+    → p ≡ permitOf (s .args .session) (s .args .copy .now) (s .args .constants .now) (transition (s .args .session .state) (s .args .target)) (given s)
+arm t token p = by-token _ _ _ _ _ _ token p (sym (t .before .before .transition .ensures) ∙ t .token .given .1)
+
+returns : tie.Need-returns
+unfolding permitOf
+returns c =
+    let t = c .before .before in
+    let s = t .before .before .before in
+    ap (λ (e : Entry). permitOf (s .args .session) (s .args .copy .now) (s .args .constants .now) e (given s)) (sym (c .enum-told .given .1) ∙ t .transition .ensures)
+
+returns-2 : tie.Need-returns-2
+unfolding tokenPermit
+returns-2 c = arm (c .before .before .before) Nothing _ (c .enum-told2 .given .1) refl
+
+returns-3 : tie.Need-returns-3
+unfolding tokenPermit rawToken
+returns-3 c =
+    let e = c .before .before in
+    let t = e .before .before .before in
+    arm t RawUnlock _ (e .enum-told3 .given .1) (c .compared .ensures ∙ ap (λ (x : ℕ). comparedAs (eqb x (given (start t)))) (c .before .eight-words .ensures))
+
+returns-4 : tie.Need-returns-4
+unfolding tokenPermit
+returns-4 c =
+    let t = c .before .before .before .before in
+    let s = start t in
+    let e = c .before .enum-told4 .given .1 in
+    arm t TestUnlock _ e (c .locked-permit .ensures ∙ ap (λ (token : Token). lockedPermit (s .args .session) (s .args .copy .now) token (given s)) e)
+
+returns-5 : tie.Need-returns-5
+unfolding tokenPermit
+returns-5 c =
+    let t = c .before .before .before .before in
+    let s = start t in
+    let e = c .before .enum-told5 .given .1 in
+    arm t TestExit _ e (c .locked-permit2 .ensures ∙ ap (λ (token : Token). lockedPermit (s .args .session) (s .args .copy .now) token (given s)) e)
+
+returns-6 : tie.Need-returns-6
+unfolding tokenPermit
+returns-6 c =
+    let t = c .before .before .before .before in
+    let s = start t in
+    let e = c .before .enum-told6 .given .1 in
+    arm t Rma _ e (c .locked-permit3 .ensures ∙ ap (λ (token : Token). lockedPermit (s .args .session) (s .args .copy .now) token (given s)) e)
+
+pub permitted-spec : {M : Type 1} → statement M
+permitted-spec =
+    tie.close
+    (tie.spec
+    transition-requires
+    enum-told
+    enum-known-token
+    enum-told-2
+    enum-told-3
+    eight-words-requires
+    compared-requires
+    enum-told-4
+    locked-permit-requires
+    enum-told-5
+    locked-permit-requires-2
+    enum-told-6
+    locked-permit-requires-3
+    returns
+    returns-2
+    returns-3
+    returns-4
+    returns-5
+    returns-6)

@@ -1,0 +1,62 @@
+-- Each arm is the word that the definition computes for its token.
+use Rattle.basics.specs.Choice.{if_then_else_}
+use Rattle.partitions.specs.Map.{numberOfKind, kindNumber, partition}
+use Rattle.partitions.specs.Map1.{map1}
+use Rattle.model.specs.Commands.{tokenKind, tokenOffset}
+use borrow.Author.Needs.{needs}
+use Rattle.transition.proofs.place_of.Statement.{statement}
+use Rattle.transition.proofs.place_of.Tie as tie
+
+enum-told : tie.Need-enum-told
+enum-told c = search needs
+
+enum-told-2 : tie.Need-enum-told-2
+enum-told-2 c = search needs
+
+enum-told-3 : tie.Need-enum-told-3
+enum-told-3 c = search needs
+
+enum-told-4 : tie.Need-enum-told-4
+enum-told-4 c = search needs
+
+add-result : tie.Need-add-result
+add-result c = search needs
+
+enum-told-5 : tie.Need-enum-told-5
+enum-told-5 c = search needs
+
+returns : tie.Need-returns
+unfolding partition numberOfKind kindNumber tokenKind tokenOffset map1 if_then_else_
+returns c = rw (c .enum-told .given .1)
+
+returns-2 : tie.Need-returns-2
+unfolding partition numberOfKind kindNumber tokenKind tokenOffset map1 if_then_else_
+returns-2 c = rw (c .enum-told2 .given .1)
+
+returns-3 : tie.Need-returns-3
+unfolding partition numberOfKind kindNumber tokenKind tokenOffset map1 if_then_else_
+returns-3 c = rw (c .enum-told3 .given .1)
+
+returns-4 : tie.Need-returns-4
+unfolding partition numberOfKind kindNumber tokenKind tokenOffset map1 if_then_else_
+returns-4 c = rw (c .enum-told4 .given .1)
+
+returns-5 : tie.Need-returns-5
+unfolding partition numberOfKind kindNumber tokenKind tokenOffset map1 if_then_else_
+returns-5 c = rw (c .enum-told5 .given .1)
+
+pub place-of-spec : {M : Type 1} → statement M
+place-of-spec =
+    tie.close
+    (tie.spec
+    enum-told
+    enum-told-2
+    enum-told-3
+    enum-told-4
+    add-result
+    enum-told-5
+    returns
+    returns-2
+    returns-3
+    returns-4
+    returns-5)

@@ -1,0 +1,162 @@
+-- Each return is the next of the paper's refusals; once the stroke is spent the cells are those it left, and the move goes on from them.
+use mathlib.Core.Path.{_≡_, sym, _∙_}
+use Prim.Native.Nat.{suc}
+use borrow.Author.Tests.{not-true, not-false}
+use Rattle.words.specs.declared.Programmed.the-variants.{Done}
+use Rattle.words.specs.Programming.{programAnswer}
+use Rattle.partitions.specs.Map1.{map1}
+use Rattle.life_cycle.specs.Words.{counterWords}
+use Rattle.model.specs.declared.Command.the-variants.{Transition}
+use Rattle.model.specs.Lent.{Machine}
+use Rattle.model.specs.Commands.{counterAt}
+use Rattle.chip.specs.declared.Judged.the-variants.{Accepted}
+use Rattle.chip.specs.Chip.{primitives, machineOf}
+use Rattle.chip.proofs.Acting.{admission, refused}
+use Rattle.transition.proofs.Moving.{bad-record, Known, unknown-target, strokes-used, Spendable, stroke-refused, not-permitted, moved}
+use borrow.Author.Needs.{needs}
+use Rattle.transition.proofs.transition.Statement.{statement}
+use Rattle.transition.proofs.transition.Tie as tie
+
+admit-requires : tie.Need-admit-requires
+admit-requires c κs = search needs
+
+enum-known-answer : tie.Need-enum-known-answer
+enum-known-answer c = search needs
+
+abbrev lent : tie.Start → Machine
+lent s = machineOf (s .args .cells .now) (s .args .copy .now) (s .args .constants .now) (s .args .session)
+
+abbrev start : tie.After-enum-told → tie.Start
+start t = t .before .before .before .before .before .before
+
+accepted : (t : tie.After-enum-told) → admission (lent (start t)) ≡ Accepted
+accepted t = sym (t .before .before .admit .ensures) ∙ t .enum-told .given .1
+
+known : (e : tie.Else1) → Known (lent (start (e .before .before .before)))
+known e = record { admitted-there = accepted (e .before .before .before); good-record = not-false _ (e .if1 .left) }
+
+abbrev spent : tie.After-spend → tie.Start
+spent q = start (q .before .before .before .before .before .before .before .before)
+
+ready : (q : tie.After-spend) → Spendable (lent (spent q)) (spent q .args .target)
+ready q =
+    let b = q .before .before in
+    let e = b .before .before in
+    record { known = known (e .before); target-known = e .if2 .left; stroke-left = b .if3 .left }
+
+done : (w : tie.After-permitted) → let o = spent (w .before .before .before .before .before) .args in
+    programAnswer (o .cells .now) (counterAt primitives map1) (counterWords (o .constants .now) (suc (o .session .count))) ≡ Done
+done w = sym (w .before .before .before .before .before .spend .ensures .0) ∙ w .before .enum-told2 .given .1
+
+returns : tie.Need-returns
+returns c =
+    let t = c .before .before .before in
+    let o = t .before .before .before .before .args in
+    refused (Transition (o .target) (o .token-high) (o .token-low)) (lent (t .before .before .before .before)) tt _ (sym (t .admit .ensures) ∙ c .before .answer .given .1)
+
+enum-told : tie.Need-enum-told
+enum-told c = search needs
+
+returns-2 : tie.Need-returns-2
+returns-2 c =
+    let t = c .before .before .before in
+    let o = start t .args in
+    bad-record _ _ _ (o .session) (o .target) _ _ (accepted t) (not-true _ (c .if1 .taken))
+
+returns-3 : tie.Need-returns-3
+returns-3 c = unknown-target _ _ _ _ _ _ _ (known (c .before)) (c .if2 .taken)
+
+inert-requires : tie.Need-inert-requires
+inert-requires c κs = search needs
+
+returns-4 : tie.Need-returns-4
+returns-4 c =
+    let b = c .before in
+    let e = b .before .before in
+    strokes-used _ _ _ _ _ _ _ (known (e .before)) (e .if2 .left) (b .if3 .taken) _ (c .inert .ensures)
+
+spend-requires : tie.Need-spend-requires
+spend-requires c κs = search needs
+
+enum-known-cell : tie.Need-enum-known-cell
+enum-known-cell c = search needs
+
+dead-requires : tie.Need-dead-requires
+dead-requires c κs = search needs
+
+same-length : tie.Need-same-length
+same-length c = search needs
+
+returns-5 : tie.Need-returns-5
+returns-5 c =
+    let t = c .before .before in
+    let q = t .before .before .before .before in
+    stroke-refused _ _ _ _ _ _ _ (ready q) _ (q .spend .ensures .1) _ (sym (q .spend .ensures .0) ∙ t .cell .given .1) _ (c .dead .ensures)
+
+enum-told-2 : tie.Need-enum-told-2
+enum-told-2 c = search needs
+
+permitted-requires : tie.Need-permitted-requires
+permitted-requires c κs = search needs
+
+enum-known-answer-2 : tie.Need-enum-known-answer-2
+enum-known-answer-2 c = search needs
+
+inert-requires-2 : tie.Need-inert-requires-2
+inert-requires-2 c κs = search needs
+
+enum-told-3 : tie.Need-enum-told-3
+enum-told-3 c = search needs
+
+move-to-requires : tie.Need-move-to-requires
+move-to-requires c κs = search needs
+
+same-length-2 : tie.Need-same-length-2
+same-length-2 c = search needs
+
+returns-6 : tie.Need-returns-6
+returns-6 c =
+    let a = c .before .before in
+    let w = a .before .before in
+    let q = w .before .before .before .before .before in
+    not-permitted _ _ _ _ _ _ _ (ready q) _ (q .spend .ensures .1) (done w) _ (sym (w .permitted .ensures) ∙ a .answer2 .given .1) _ (c .inert2 .ensures)
+
+same-length-3 : tie.Need-same-length-3
+same-length-3 c = search needs
+
+returns-7 : tie.Need-returns-7
+returns-7 c =
+    let v = c .before .before in
+    let a = v .before .before in
+    let w = a .before .before in
+    let q = w .before .before .before .before .before in
+    moved _ _ _ _ _ _ _ (ready q) _ (q .spend .ensures .1) (done w) (sym (w .permitted .ensures) ∙ a .enum-told3 .given .1) _ _
+    (v .move-to .ensures .0) (v .move-to .ensures .1)
+
+pub transition-spec : {M : Type 1} → statement M
+transition-spec =
+    tie.close
+    (tie.spec
+    admit-requires
+    enum-known-answer
+    returns
+    enum-told
+    returns-2
+    returns-3
+    inert-requires
+    returns-4
+    spend-requires
+    enum-known-cell
+    dead-requires
+    same-length
+    returns-5
+    enum-told-2
+    permitted-requires
+    enum-known-answer-2
+    inert-requires-2
+    enum-told-3
+    move-to-requires
+    same-length-2
+    returns-6
+    same-length-3
+    returns-7)

@@ -1,0 +1,59 @@
+-- What the code of a transition finds once the stroke is spent: whether table and token permit the move, and what the move comes to.
+use Prim.Native.Nat.{ℕ}
+use mathlib.Core.Bool.{Bool, not}
+use mathlib.Core.List.{List}
+use lib.Dec.{eqb}
+use Rattle.basics.specs.Choice.{if_then_else_}
+use Rattle.words.specs.declared.Programmed.{Programmed}
+use Rattle.words.specs.declared.Programmed.the-variants as programmed
+use Rattle.partitions.specs.Map.{numberOfKind}
+use Rattle.partitions.specs.Map1.{map1}
+use Rattle.life_cycle.specs.declared.Token.{Token}
+use Rattle.life_cycle.specs.declared.Token.the-variants.{Nothing, RawUnlock, TestUnlock, TestExit, Rma}
+use Rattle.life_cycle.specs.declared.Entry.{Entry}
+use Rattle.life_cycle.specs.declared.Entry.the-variants.{Allowed, Forbidden}
+use Rattle.model.specs.declared.Reason.the-variants.{BitCleared}
+use Rattle.model.specs.declared.Phase.the-variants.{Inert, Dead}
+use Rattle.model.specs.declared.Session.{Session}
+use Rattle.model.specs.declared.Answer.{Answer}
+use Rattle.model.specs.declared.Answer.the-variants.{Done, Cleared, NotInTable, TokenNotLocked, TokenDiffers}
+use Rattle.model.specs.declared.Outcome.{Outcome}
+use Rattle.model.specs.Session.{sensedLocked, inPhase}
+use Rattle.model.specs.Lent.{rawToken}
+use Rattle.model.specs.Commands.{tokenKind, tokenSame}
+use Rattle.chip.specs.Chip.{primitives}
+use Rattle.transition.specs.declared.Permit.{Permit}
+use Rattle.transition.specs.declared.Permit.the-variants.{Granted, Refused}
+
+-- the test behind 0x23
+unfoldable pub comparedAs : Bool → Permit
+comparedAs same = if same then Granted else Refused TokenDiffers
+
+-- a token that is stored needs its partition sensed locked
+unfoldable pub lockedPermit : Session → List ℕ → Token → ℕ → Permit
+lockedPermit s copy token given =
+    if not (sensedLocked s (numberOfKind map1 (tokenKind token))) then Refused TokenNotLocked
+    else comparedAs (tokenSame primitives map1 token given copy)
+
+unfoldable pub tokenPermit : Session → List ℕ → List ℕ → Token → ℕ → Permit
+tokenPermit s copy constants Nothing given = Granted
+tokenPermit s copy constants RawUnlock given = comparedAs (eqb (rawToken constants) given)
+tokenPermit s copy constants TestUnlock given = lockedPermit s copy TestUnlock given
+tokenPermit s copy constants TestExit given = lockedPermit s copy TestExit given
+tokenPermit s copy constants Rma given = lockedPermit s copy Rma given
+
+unfoldable pub permitOf : Session → List ℕ → List ℕ → Entry → ℕ → Permit
+permitOf s copy constants Forbidden given = Refused NotInTable
+permitOf s copy constants (Allowed token) given = tokenPermit s copy constants token given
+
+-- "Every later answer leaves the phase Inert (Dead 4 after a 4)."
+abbrev pub inert : Session → Answer → Outcome
+inert s answer = record { session = inPhase Inert s; answer = answer }
+
+abbrev pub dead : Session → ℕ → Outcome
+dead s cell = record { session = inPhase (Dead BitCleared) s; answer = Cleared cell }
+
+-- the outcome of programming the state words
+abbrev pub movedAs : Session → Programmed → Outcome
+movedAs s programmed.Done = inert s (Done 0)
+movedAs s (programmed.Refused cell) = dead s cell
