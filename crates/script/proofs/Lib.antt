@@ -1,3 +1,5 @@
 pub mod Numbers
 pub mod Records
+pub mod Digits
 pub mod Lines
+pub mod Examples

@@ -1,20 +1,23 @@
 -- Laws of records. The idea: the tests of `nextAt` are taken apart once, and every law reads what led to an answer.
 use Prim.Native.Nat.{ℕ, _+_, _≤_, _<_}
-use mathlib.Core.Path.{_≡_, refl, _∙_}
-use mathlib.Core.Bool.{Bool, true, false}
+use mathlib.Core.Path.{_≡_, refl, sym, ap, _∙_}
+use mathlib.Core.Bool.{Bool, true, false, _||_}
 use mathlib.Core.List.{List}
 use mathlib.Core.Logic.{⊎-elim, _⊎_}
 use native.Mathlib.Omega.{arith}
 use lib.Dec.{eqb}
 use lib.ListN.{length}
-use borrow.Author.Tests.{lt-ltb, le-ltb, le-leb, lt-leb, ltb-true, ltb-false, leb-true, leb-false}
+use borrow.Author.Tests.{lt-ltb, le-ltb, le-leb, lt-leb, ltb-true, ltb-false, leb-true, leb-false, eqb-true}
 use denote.Enum.Declared.{tagOf}
 use Rattle.basics.specs.Choice.{if_then_else_}
-use Rattle.basics.proofs.Choice.{if-true, if-false, if-both}
+use Rattle.basics.specs.Range.{allBelow}
+use Rattle.basics.proofs.Choice.{if-true, if-false, if-both, or-none-right}
+use Rattle.basics.proofs.Range.{all-at}
+use Rattle.model.specs.declared.Command.{Command}
 use Rattle.script.specs.declared.Refusal.the-variants.{UnknownKind, CutShort, TooLong}
 use Rattle.script.specs.declared.Reading.{Reading}
 use Rattle.script.specs.declared.Reading.the-variants.{Record, End, Refused}
-use Rattle.script.specs.Records.{unknown, bodyLength, byteAt, commandAt, nextAt, placeAfter}
+use Rattle.script.specs.Records.{kindOf, unknown, bodyLength, byteAt, commandAt, nextAt, placeAfter}
 use Rattle.script.proofs.Reading as N
 
 -- ---- `nextAt` test by test, as code goes through it
@@ -50,7 +53,7 @@ module _ (s : List ℕ) (p : ℕ) where
         whole-record h = if-false _ _ (le-ltb _ _ short) ∙ if-false _ _ (lt-leb _ _ inside) ∙ if-false _ _ known ∙ if-false _ _ (le-ltb _ _ h)
 
 -- what the other arm of a `let .. else` knows: the answer is no record
-abbrev Other : Reading → Type 0
+abbrev pub Other : Reading → Type 0
 Other n = (tagOf N.the-type n ≡ 1) ⊎ (tagOf N.the-type n ≡ 2)
 
 pub other-place : (n : Reading) (at : ℕ) → Other n → at ≡ placeAfter n at
@@ -86,3 +89,41 @@ led s p =
     (λ _. if-both (Led s p) _ _ _ (λ e. past (leb-true _ _ e))
     (λ i. if-both (Led s p) _ _ _ strange
     (λ k. if-both (Led s p) _ _ _ (λ e. cut (ltb-true _ _ e)) (λ w. whole (leb-false _ _ i) k (ltb-false _ _ w)))))
+
+-- a known kind is that of its command
+kind-known : (s : List ℕ) (k at : ℕ) → unknown k ≡ false → kindOf (commandAt s k at) ≡ k
+unfolding allBelow unknown commandAt if_then_else_
+kind-known s k at known =
+    let h : k ≤ 7 = ltb-false _ _ (or-none-right (eqb k 0) _ known) in
+    eqb-true _ _ (rw known at (all-at 8 (λ i. unknown i || eqb (kindOf (commandAt s i at)) i) tt k (omega arith)))
+
+-- what holds of a record that is read: its next place is behind its body and within the script, so that a loop over a script ends
+pub record IsRead (s : List ℕ) (p : ℕ) (c : Command) (n : ℕ) : Type 0 where
+  pub kind : kindOf c ≡ byteAt s p
+  pub behind : n ≡ p + 1 + bodyLength (byteAt s p)
+  pub above : p < n
+  pub within : n ≤ length s
+
+led-record : (s : List ℕ) (p : ℕ) (r : Reading) → Led s p r → {c : Command} {n : ℕ} → r ≡ Record c n → IsRead s p c n
+led-record s p r (long h) e = absurd (omega (arith, ap (tagOf N.the-type) e))
+led-record s p r (past h) e = absurd (omega (arith, ap (tagOf N.the-type) e))
+led-record s p r (strange h) e = absurd (omega (arith, ap (tagOf N.the-type) e))
+led-record s p r (cut h) e = absurd (omega (arith, ap (tagOf N.the-type) e))
+led-record s p r (whole i k w) {c} {n} e =
+    let a : commandAt s (byteAt s p) (p + 1) ≡ c = cc in
+    let b : p + 1 + bodyLength (byteAt s p) ≡ n = cc in
+    record { kind = ap kindOf (sym a) ∙ kind-known s _ _ k; behind = sym b; above = omega arith; within = omega arith }
+
+pub is-read : (s : List ℕ) (p : ℕ) {c : Command} {n : ℕ} → nextAt s p ≡ Record c n → IsRead s p c n
+is-read s p = led-record s p (nextAt s p) (led s p)
+
+-- a script of at most 65,536 bytes is never too long
+pub not-too-long : (s : List ℕ) (p : ℕ) {q : ℕ} → length s ≤ 65536 → nextAt s p ≡ Refused TooLong q → ⊥
+not-too-long s p {q} short = led-long (nextAt s p) (led s p)
+  where
+    led-long : (r : Reading) → Led s p r → r ≡ Refused TooLong q → ⊥
+    led-long r (long h) e = omega arith
+    led-long r (past h) e = omega (arith, ap (tagOf N.the-type) e)
+    led-long r (strange h) e = let z : _≡_ {A = ℕ} 0 1 = cc in omega arith
+    led-long r (cut h) e = let z : _≡_ {A = ℕ} 0 1 = cc in omega arith
+    led-long r (whole i k w) e = omega (arith, ap (tagOf N.the-type) e)

@@ -1,6 +1,5 @@
 -- The lines that the bench program prints, as bytes (ASCII: a newline is 10, a space 32, 0 is 48, a is 97).
 use Prim.Native.Nat.{ℕ, zero, suc, _+_, _-_, _/_, _%_}
-use mathlib.Core.Bool.{Bool, true, false}
 use mathlib.Core.List.{List, [], _∷_, _++_}
 use lib.Dec.{ltb}
 use lib.ListN.{length, replicate}
@@ -26,7 +25,8 @@ unfoldable pub decimal : ℕ → ℕ → List ℕ
 decimal zero x = []
 decimal (suc n) x = if ltb x 10 then digitByte x ∷ [] else decimal n (x / 10) ++ (digitByte (x % 10) ∷ [])
 
--- "The end line counts the lines before it, in decimal.": `end `, the count and a newline; a count has at most 20 digits
+-- "The end line counts the lines before it, in decimal.": `end `, the count and a newline. A count of 64 bits has at most 20
+-- digits.
 unfoldable pub endLine : ℕ → List ℕ
 endLine count = (101 ∷ 110 ∷ 100 ∷ 32 ∷ []) ++ decimal 20 count ++ (10 ∷ [])
 

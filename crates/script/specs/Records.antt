@@ -1,6 +1,6 @@
 -- Script records (document 01): "A record is one byte of kind, then a body whose length the kind fixes".
 use Prim.Native.Nat.{ℕ, _+_}
-use mathlib.Core.Bool.{Bool, true, false, _||_}
+use mathlib.Core.Bool.{Bool, _||_}
 use mathlib.Core.List.{List}
 use lib.Dec.{eqb, leb, ltb}
 use lib.ListN.{length, getD}
@@ -13,7 +13,8 @@ use Rattle.script.specs.declared.Refusal.the-variants.{UnknownKind, CutS
 use Rattle.script.specs.declared.Reading.{Reading}
 use Rattle.script.specs.declared.Reading.the-variants.{Record, End, Refused}
 
--- "1 read 4; 2 write 4+8; 3 front read 4; 4 digest 4; 5 read lock 1; 6 transition 1+16; 7 power-up 0"
+-- "1 read 4; 2 write 4+8; 3 front read 4; 4 digest 4; 5 read lock 1; 6 transition 1+16; 7 power-up 0": each command's kind, and below the
+-- length of its body
 abbrev pub kindOf : Command → ℕ
 kindOf (Read address) = 1
 kindOf (Write address value) = 2
@@ -23,6 +24,7 @@ kindOf (ReadLock partition) = 5
 kindOf (Transition target high low) = 6
 kindOf PowerUp = 7
 
+-- any other kind
 unfoldable pub unknown : ℕ → Bool
 unknown kind = eqb kind 0 || ltb 7 kind
 

@@ -124,7 +124,11 @@ fn command_at(script: &[u8], kind: u8, at: usize) -> Command
         DIGEST => Command::Digest(four_at(script, at)),
         READ_LOCK => Command::ReadLock(script[at]),
         TRANSITION => {
-            Command::Transition(script[at], eight_at(script, at + 9), eight_at(script, at + 1))
+            Command::Transition(
+                script[at],
+                eight_at(script, at + 9),
+                eight_at(script, at + 1),
+            )
         }
         _ => Command::PowerUp,
     }
@@ -186,7 +190,10 @@ impl<'a> Reader<'a> {
         ensures { λ r. ⌜ r ≡ advancedReader (self .entry) ⌝ }
     {
         let place = place_after(self.script, self.place);
-        Reader { script: self.script, place }
+        Reader {
+            script: self.script,
+            place,
+        }
     }
 }
 
@@ -263,5 +270,8 @@ pub fn end_line(count: u64) -> EndLine
     let end = 4 + decimal_length(count);
     put_digits(&mut bytes[4..end], 10, count);
     bytes[end] = b'\n';
-    EndLine { bytes, len: end + 1 }
+    EndLine {
+        bytes,
+        len: end + 1,
+    }
 }

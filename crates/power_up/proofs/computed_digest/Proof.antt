@@ -2,11 +2,11 @@
 use mathlib.Core.Path.{sym, ap, _∙_}
 use Prim.Native.Nat.{_-_, _/_}
 use native.Mathlib.Omega.{arith}
+use borrow.Author.Needs.{needs}
 use Rattle.words.proofs.Parts.{part-slice}
 use Rattle.digest.specs.Digest.{digestWords}
 use Rattle.model.specs.Lent.{digestStart, digestFinal}
 use Rattle.model.specs.Commands.{dataWords, computedDigest}
-use borrow.Author.Needs.{needs}
 use Rattle.power_up.proofs.computed_digest.Statement.{statement}
 use Rattle.power_up.proofs.computed_digest.Tie as tie
 

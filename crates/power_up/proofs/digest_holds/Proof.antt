@@ -1,8 +1,8 @@
 -- The two early returns and the comparison are the three alternatives of the definition, in order.
 use mathlib.Core.Path.{_≡_, sym, ap, ap₂, _∙_}
 use mathlib.Core.Bool.{Bool}
-use lib.Dec.{eqb}
 use borrow.Author.Needs.{needs}
+use lib.Dec.{eqb}
 use borrow.Author.Tests.{not-true, not-false}
 use Rattle.partitions.specs.Map.{rightsOf}
 use Rattle.partitions.specs.Map1.{map1}

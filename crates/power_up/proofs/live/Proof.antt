@@ -1,6 +1,7 @@
 -- The slices are the life cycle words; each arm is one way that they decide.
 use mathlib.Core.Path.{_≡_, sym, ap, _∙_}
 use Prim.Native.Nat.{ℕ}
+use borrow.Author.Needs.{needs}
 use Rattle.basics.specs.Range.{listed}
 use Rattle.partitions.specs.Map1.{map1}
 use Rattle.model.specs.Lent.{Lent}
@@ -10,7 +11,6 @@ use Rattle.model.specs.PowerUp.{Waking, lifeCycleIn, lifeCycleWaking}
 use Rattle.chip.specs.Chip.{primitives}
 use Rattle.power_up.specs.Waking.{lentOf, wokenResult, deadOutcome}
 use Rattle.power_up.proofs.Waking.{life-cycle-slices, woken-as, dead-result, invalid, scrapped, usable}
-use borrow.Author.Needs.{needs}
 use Rattle.power_up.proofs.live.Statement.{statement}
 use Rattle.power_up.proofs.live.Tie as tie
 

@@ -1,12 +1,12 @@
 -- A refusal changes nothing; what is accepted is powered up.
 use mathlib.Core.Path.{sym, ap, _∙_}
+use borrow.Author.Needs.{needs}
 use Rattle.model.specs.declared.Command.the-variants.{PowerUp}
 use Rattle.model.specs.Lent.{Machine}
 use Rattle.model.specs.Step.{Step}
 use Rattle.chip.specs.Chip.{machineOf}
 use Rattle.chip.proofs.Judging.{accepted-right, accepted-step, refused-step}
 use Rattle.power_up.proofs.Waking.{powered-up}
-use borrow.Author.Needs.{needs}
 use Rattle.power_up.proofs.power_up.Statement.{statement}
 use Rattle.power_up.proofs.power_up.Tie as tie
 

@@ -1,7 +1,7 @@
 -- Copy, sensed digests and value are those of the definition.
+use borrow.Author.Needs.{needs}
 use Rattle.power_up.proofs.Waking.{ready-result}
 use Rattle.power_up.specs.Waking.{lentOf}
-use borrow.Author.Needs.{needs}
 use Rattle.power_up.proofs.ready.Statement.{statement}
 use Rattle.power_up.proofs.ready.Tie as tie
 
@@ -21,8 +21,9 @@ returns : tie.Need-returns
 returns c =
     let s = c .before in
     let t = s .before .before .before in
-    let o = t .before .before .before .before .before in
-    ready-result (o .args .state) (o .args .count) (lentOf (o .args .cells .now) (o .args .copy .now) (o .args .constants .now)) (t .latch .ensures) (s .stored-digests .ensures) (c .value-of .ensures)
+    let a = t .before .before .before .before .before .args in
+    let lent = lentOf (a .cells .now) (a .copy .now) (a .constants .now) in
+    ready-result (a .state) (a .count) lent (t .latch .ensures) (s .stored-digests .ensures) (c .value-of .ensures)
 
 pub ready-spec : {M : Type 1} → statement M
 ready-spec =

@@ -1,5 +1,6 @@
 -- A failed check ends the power-up; else the life cycle decides.
 use mathlib.Core.Path.{sym, ap, _∙_}
+use borrow.Author.Needs.{needs}
 use Rattle.basics.specs.Range.{listed}
 use Rattle.partitions.specs.Map1.{map1}
 use Rattle.model.specs.Lent.{Lent}
@@ -7,7 +8,6 @@ use Rattle.model.specs.PowerUp.{waking}
 use Rattle.chip.specs.Chip.{primitives}
 use Rattle.power_up.specs.Waking.{lentOf}
 use Rattle.power_up.proofs.Waking.{woken-as, dead-result, failed, passed}
-use borrow.Author.Needs.{needs}
 use Rattle.power_up.proofs.woken.Statement.{statement}
 use Rattle.power_up.proofs.woken.Tie as tie
 
@@ -41,7 +41,8 @@ returns c =
     let d = c .before .before in
     let t = d .before .before .before .before .before in
     let zeros = d .dead .ensures .0 ∙ ap (listed (λ j. 0) 0) (start t .pre .1) in
-    dead-result _ _ (lent t) zeros (d .dead .ensures .1) ∙ sym (woken-as (waking primitives map1) (lent t) (failed (lent t) _ (sym (d .before .before .before .number .given .1) ∙ t .first-failing .ensures)))
+    let told = sym (d .before .before .before .number .given .1) ∙ t .first-failing .ensures in
+    dead-result _ _ (lent t) zeros (d .dead .ensures .1) ∙ sym (woken-as (waking primitives map1) (lent t) (failed (lent t) _ told))
 
 same-length-2 : tie.Need-same-length-2
 same-length-2 c = search needs
@@ -50,7 +51,8 @@ returns-2 : tie.Need-returns-2
 returns-2 c =
     let v = c .before .before in
     let t = v .before .before .before .before in
-    v .live .ensures ∙ sym (woken-as (waking primitives map1) (lent t) (passed (lent t) (sym (v .before .before .enum-told .given .1) ∙ t .first-failing .ensures)))
+    let told = sym (v .before .before .enum-told .given .1) ∙ t .first-failing .ensures in
+    v .live .ensures ∙ sym (woken-as (waking primitives map1) (lent t) (passed (lent t) told))
 
 pub woken-spec : {M : Type 1} → statement M
 woken-spec =

@@ -1,5 +1,5 @@
 -- Each arm is `bodyLength` at its kind.
-use mathlib.Core.Path.{_≡_, sym, ap}
+use mathlib.Core.Path.{sym, ap}
 use borrow.Author.Tests.{ne-eqb}
 use Rattle.basics.specs.Choice.{if_then_else_}
 use Rattle.script.specs.Records.{bodyLength}

@@ -1,14 +1,12 @@
 -- The invariant: the digits counted and those of the rest are those of x, and the rest is below the power of ten left.
 use mathlib.Core.Path.{_≡_}
-use Prim.Native.Nat.{_≤_, _-_, _+_, _<_, _/_, _^_}
+use Prim.Native.Nat.{_≤_, _-_, _+_, _<_, _^_}
 use native.Mathlib.Omega.{arith}
 use lib.ListN.{length}
 use Rattle.script.specs.Lines.{decimal}
-use Rattle.script.proofs.Lines.{count-more, count-one}
+use Rattle.script.proofs.Digits.{count-more, count-one}
 use Rattle.script.proofs.decimal_length.Statement.{statement}
 use Rattle.script.proofs.decimal_length.Tie as tie
-use Rattle.script.proofs.decimal_length.Reads as reads
-use Rattle.script.proofs.decimal_length.Lts as lts
 
 abbrev Inv-loop : tie.InvT-loop
 Inv-loop x n₀ rest₀ n rest = (0 < n) × (n ≤ 20) × (rest < 10 ^ (21 - n)) × (n + length (decimal (21 - n) rest) ≡ 1 + length (decimal 20 x))

@@ -4,10 +4,6 @@ use borrow.Author.Needs.{needs}
 use Rattle.script.proofs.Numbers.{eight-bytes}
 use Rattle.script.proofs.eight_at.Statement.{statement}
 use Rattle.script.proofs.eight_at.Tie as tie
-use Rattle.script.proofs.eight_at.Reads as reads
-use Rattle.script.proofs.eight_at.Lts as lts
-use Rattle.script.proofs.four_at.Reads as four-at-reads
-use Rattle.script.proofs.wider.Reads as wider-reads
 
 four-at-requires : tie.Need-four-at-requires
 four-at-requires c κs = search needs

@@ -1,5 +1,5 @@
 -- A count has at most 20 digits, so that its line fits; the part lent holds just its digits.
-use mathlib.Core.Path.{_≡_, sym, ap₂, _∙_}
+use mathlib.Core.Path.{_≡_, ap₂}
 use mathlib.Core.List.{List}
 use Prim.Native.Nat.{ℕ, _≤_, _+_, _-_}
 use native.Mathlib.Omega.{arith}
@@ -7,13 +7,10 @@ use lib.ListN.{length, take}
 use lib.Seq.{length-take-le}
 use borrow.Author.Needs.{needs}
 use Rattle.script.specs.declared.EndLine.{EndLine}
-use Rattle.script.proofs.Lines.{decimal-short, zeros, end-length, end-written}
+use Rattle.script.proofs.Digits.{decimal-short}
+use Rattle.script.proofs.Lines.{zeros, end-length, end-written}
 use Rattle.script.proofs.end_line.Statement.{statement}
 use Rattle.script.proofs.end_line.Tie as tie
-use Rattle.script.proofs.end_line.Reads as reads
-use Rattle.script.proofs.end_line.Lts as lts
-use Rattle.script.proofs.decimal_length.Reads as decimal-length-reads
-use Rattle.script.proofs.put_digits.Reads as put-digits-reads
 
 array-write-bytes : tie.Need-array-write-bytes
 array-write-bytes c = search needs

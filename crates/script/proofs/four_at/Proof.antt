@@ -4,9 +4,6 @@ use borrow.Author.Needs.{needs}
 use Rattle.script.proofs.Numbers.{four-bytes}
 use Rattle.script.proofs.four_at.Statement.{statement}
 use Rattle.script.proofs.four_at.Tie as tie
-use Rattle.script.proofs.four_at.Reads as reads
-use Rattle.script.proofs.four_at.Lts as lts
-use Rattle.script.proofs.wide.Reads as wide-reads
 
 shared-slice-read-wide : tie.Need-shared-slice-read-wide
 shared-slice-read-wide c = search needs

@@ -4,9 +4,6 @@ use borrow.Author.Needs.{needs}
 use Rattle.script.specs.Lines.{digits, lineOf}
 use Rattle.script.proofs.line.Statement.{statement}
 use Rattle.script.proofs.line.Tie as tie
-use Rattle.script.proofs.line.Reads as reads
-use Rattle.script.proofs.line.Lts as lts
-use Rattle.script.proofs.put_digits.Reads as put-digits-reads
 
 sub-put-digits : tie.Need-sub-put-digits
 sub-put-digits c = search needs

@@ -1,5 +1,5 @@
 -- Each answer is the case of `nextAt` to which the same tests lead.
-use mathlib.Core.Path.{_≡_, sym}
+use mathlib.Core.Path.{sym}
 use Prim.Native.Nat.{_≤_}
 use native.Mathlib.Omega.{arith}
 use borrow.Author.Needs.{needs}
@@ -7,10 +7,6 @@ use Rattle.script.specs.Records.{unknown}
 use Rattle.script.proofs.Records.{too-long, at-end, unknown-kind, cut-short, whole-record, body-short}
 use Rattle.script.proofs.next_at.Statement.{statement}
 use Rattle.script.proofs.next_at.Tie as tie
-use Rattle.script.proofs.next_at.Reads as reads
-use Rattle.script.proofs.next_at.Lts as lts
-use Rattle.script.proofs.body_length.Reads as body-length-reads
-use Rattle.script.proofs.command_at.Reads as command-at-reads
 
 returns : tie.Need-returns
 returns c = sym (too-long _ _ (c .if1 .taken))

@@ -1,5 +1,5 @@
 -- A record holds the next place; any other answer keeps the place.
-use mathlib.Core.Path.{_≡_, sym, ap, _∙_}
+use mathlib.Core.Path.{sym, ap, _∙_}
 use borrow.Author.Needs.{needs}
 use Rattle.script.specs.declared.Reading.{Reading}
 use Rattle.script.specs.Records.{placeAfter}

@@ -1,16 +1,13 @@
 -- The invariant: from i on stand the lowest digits of x, and the rest is what is left of x above them.
 use mathlib.Core.Path.{_≡_, _∙_}
 use Prim.Native.Nat.{_≤_, _-_, _/_, _^_}
-use native.Mathlib.Nat.{le-refl, mod-lt}
+use native.Mathlib.Nat.{mod-lt}
 use native.Mathlib.Omega.{arith}
 use lib.ListN.{length, drop, length-set}
 use Rattle.script.specs.Lines.{digits}
-use Rattle.script.proofs.Lines.{digits-none, digits-whole, digits-more, rest-more}
+use Rattle.script.proofs.Digits.{digits-none, digits-whole, digits-more, rest-more}
 use Rattle.script.proofs.put_digits.Statement.{statement}
 use Rattle.script.proofs.put_digits.Tie as tie
-use Rattle.script.proofs.put_digits.Reads as reads
-use Rattle.script.proofs.put_digits.Lts as lts
-use Rattle.script.proofs.digit_byte.Reads as digit-byte-reads
 
 abbrev Inv-loop : tie.InvT-loop
 Inv-loop part₀ base x i₀ rest₀ part i rest = (i ≤ length part) × (length part ≡ length part₀) × (drop i part ≡ digits base (length part₀ - i) x) × (rest ≡ x / base ^ (length part₀ - i))

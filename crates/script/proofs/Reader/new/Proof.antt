@@ -35,7 +35,6 @@ use denote.Triple.Table.{entered}
 use denote.Triple.Walked.{says, Stays, stay-none-slice, walkOf, goes-none-slice, Walks, ends-at, walked, walk-meets}
 use denote.Exit.{yes}
 use Rattle.script.specs.declared.Reader.{Reader}
-use Rattle.script.specs.Reader.{newReader}
 use Rattle.script.proofs.Reader as T
 use Rattle.script.proofs.Reader.Laws as T′
 use Rattle.script.proofs.Reader.new.Key.{name as #script·new}
@@ -55,7 +54,7 @@ module _ {M : Type 1} (𝓤 : URA M) (H : Heap 𝓤) (A : Atoms 𝓤) (W : Given
   v = sliceVal (s .ptr) (length (s .now))
 
   abbrev made : Reader
-  made = newReader s
+  made = record { script = s; place = 0 }
 
   abbrev vals : List Val × Unit {0}
   vals = (v ∷ [], tt)

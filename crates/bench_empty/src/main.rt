@@ -1,0 +1,4 @@
+// The bench program on an empty script.
+fn main() {
+    rehearsal::run();
+}
