@@ -97,7 +97,10 @@ pub fn turn(
     let outcome = controller::execute(cells, copy, constants, session, command);
     let answer = outcome.answer;
     let after = outcome.session;
-    let line = script::line(script::kind_of(command), answer.code(), answer.value());
+    let kind = script::kind_of(command);
+    let code = answer.code();
+    let value = answer.value();
+    let line = script::line(kind, code, value);
     Turned {
         session: after,
         course: Course::Goes,
