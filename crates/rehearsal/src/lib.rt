@@ -1,22 +1,21 @@
-// The bench program: it reads the script and the two files, takes turns, and writes their lines and the end line as they come.
+// The bench program: it reads the script and the two files, and writes the lines that `transcript` and `script` make.
 use libc::STDIN_FILENO;
 use libc::STDOUT_FILENO;
 use model::Session;
 use transcript::Course;
 ghost use mathlib.Core.Path.{_≡_};
-ghost use Prim.Native.Nat.{_+_, _≤_, _<_};
+ghost use Prim.Native.Nat.{_+_, _≤_};
 ghost use lib.ListN.{length, take};
 ghost use Rattle.io.specs.Counts.{Counts};
 
 // More than there are records in the bytes of `script_buffer`.
-const MOST_TURNS: u64 = 65538;
+const MOST_TURNS: u32 = 65538;
 
-// Where a rehearsal stands: how many bytes of lines wait to be written, and how many lines there were.
+// Where a rehearsal stands, and how many bytes of lines wait to be written.
 struct Progress {
     session: Session,
     place: usize,
     used: usize,
-    count: u64,
     going: bool,
 }
 
@@ -121,8 +120,8 @@ fn take_turn(
     out: &mut [u8],
     at: Progress,
 ) -> Progress
-    requires { ⌜ (at .used ≤ length (now out)) × (23 ≤ length (now out)) × (at .count < 65538) ⌝ }
-    ensures { λ r. ⌜ (r .used ≤ length (now (out .entry))) × (r .count ≤ at .count + 1) ⌝ }
+    requires { ⌜ (at .used ≤ length (now out)) × (23 ≤ length (now out)) ⌝ }
+    ensures { λ r. ⌜ r .used ≤ length (now (out .entry)) ⌝ }
 {
     let t = transcript::turn(script, at.place, cells, copy, constants, at.session);
     let course = t.course;
@@ -132,7 +131,6 @@ fn take_turn(
             session,
             place: t.place,
             used: at.used,
-            count: at.count,
             going: false,
         };
     }
@@ -142,7 +140,6 @@ fn take_turn(
         session,
         place: t.place,
         used,
-        count: at.count + 1,
         going: goes_on(course),
     }
 }
@@ -162,7 +159,6 @@ fn take_turns(
         session: Session::fresh(),
         place: 0,
         used: 0,
-        count: 0,
         going: true,
     };
     let mut left = MOST_TURNS;
@@ -184,7 +180,7 @@ fn rehearse(script: &[u8], cells: &mut [u16], copy: &mut [u16], constants: &[u16
     let mut out = lines_buffer();
     let at = take_turns(script, cells, copy, constants, &mut out);
     write_out(&out, at.used);
-    write_end(at.count);
+    write_end(transcript::line_count(script));
 }
 
 // Rehearses standard input over `image.bin` and `constants.bin`, from a fresh session record and a zero copy.

@@ -1,3 +1,4 @@
 pub mod Files
 pub mod Turns
 pub mod Transcript
+pub mod Counting

@@ -5,32 +5,16 @@ use mathlib.Core.Path.{_≡_, refl, sym, ap, ap₂, _∙_}
 use mathlib.Core.List.{List, [], _∷_, _++_, append-assoc, append-nil}
 use native.Mathlib.Omega.{arith}
 use lib.ListN.{length}
-use borrow.Author.Tests.{leb-false, ltb-false}
-use Rattle.basics.proofs.Choice.{if-both}
-use Rattle.model.specs.declared.Command.{Command}
 use Rattle.model.specs.Answers.{codeOf, valueOf}
 use Rattle.model.specs.Lent.{Machine}
 use Rattle.chip.specs.Chip.{resultFor}
 use Rattle.script.specs.declared.Reading.{Reading}
 use Rattle.script.specs.declared.Reading.the-variants.{Record, End, Refused}
-use Rattle.script.specs.declared.Refusal.{Refusal}
 use Rattle.script.specs.Records.{kindOf, refusalCode, nextAt}
 use Rattle.script.specs.Lines.{lineOf, endLine}
+use Rattle.script.proofs.Records.{is-read}
 use Rattle.transcript.specs.Transcript.{Line, refusedKind, linesFrom, chipOf, linesOf, printed, transcript}
 use Rattle.transcript.specs.Turns.{turnBy, turnOf, afterTurn, turnsFrom}
-
--- a record's next place is above its place and at most the script's length
-pub data Forward (s : List ℕ) (p : ℕ) : Reading → Type 0 where
-  on : {x : Command} {next : ℕ} → p < next → next ≤ length s → Forward s p (Record x next)
-  ended : Forward s p End
-  refused : {w : Refusal} {at : ℕ} → Forward s p (Refused w at)
-
-pub forward : (s : List ℕ) (p : ℕ) → Forward s p (nextAt s p)
-unfolding nextAt
-forward s p =
-    if-both (Forward s p) _ _ _ (λ _. refused)
-    (λ _. if-both (Forward s p) _ _ _ (λ _. ended)
-    (λ _. if-both (Forward s p) _ _ _ (λ _. refused) (λ _. if-both (Forward s p) _ _ _ (λ _. refused) (λ w. on (omega arith) (ltb-false _ _ w)))))
 
 module _ (s : List ℕ) where
   -- what n turns from a place print after some lines: the lines from there on, and the end line
@@ -62,21 +46,22 @@ module _ (s : List ℕ) where
   -- two budgets that are not used up print the same
   module _ (a b : ℕ) (place : ℕ) (m : Machine) (count : ℕ) where
     same-more : ((p : ℕ) (k : Machine) → p ≤ length s → place < p → turnsFrom a s p k (count + 1) ≡ turnsFrom b s p k (count + 1))
-        → (r : Reading) → Forward s place r → nextAt s place ≡ r → turnsFrom (suc a) s place m count ≡ turnsFrom (suc b) s place m count
+        → (r : Reading) → nextAt s place ≡ r → turnsFrom (suc a) s place m count ≡ turnsFrom (suc b) s place m count
     unfolding turnsFrom turnOf turnBy afterTurn
-    same-more known (Record command next) (on h l) e =
+    same-more known (Record command next) e =
+        let i = is-read s place e in
         let r = resultFor command m in
         let line = lineOf (kindOf command) (codeOf (r .answer)) (valueOf (r .answer)) in
-        rw e (ap (λ (ys : List ℕ). line ++ ys) (known next (r .machine) l h))
-    same-more known End ended e = rw e
-    same-more known (Refused w at) refused e = rw e
+        rw e (ap (λ (ys : List ℕ). line ++ ys) (known next (r .machine) (i .within) (i .above)))
+    same-more known End e = rw e
+    same-more known (Refused w at) e = rw e
 
   same-bytes : (a b place : ℕ) (m : Machine) (count : ℕ) → place ≤ length s → length s < place + a → length s < place + b
       → turnsFrom a s place m count ≡ turnsFrom b s place m count
   same-bytes zero b place m count h ha hb = absurd (omega arith)
   same-bytes (suc a) zero place m count h ha hb = absurd (omega arith)
   same-bytes (suc a) (suc b) place m count h ha hb =
-      same-more a b place m count (λ p k l g. same-bytes a b p k (count + 1) l (omega arith) (omega arith)) (nextAt s place) (forward s place) refl
+      same-more a b place m count (λ p k l g. same-bytes a b p k (count + 1) l (omega arith) (omega arith)) (nextAt s place) refl
 
 -- the lines of repeated turns, with the end line, are the transcript
 pub turns-are-transcript : (script image constants : List ℕ) → turnsFrom (length script + 1) script 0 (chipOf image constants) 0 ≡ transcript script image constants

@@ -2,9 +2,8 @@
 use Prim.Native.Nat.{ℕ}
 use mathlib.Core.Path.{_≡_, refl}
 use mathlib.Core.List.{List}
-use mathlib.Core.Logic.{⊎-elim, _⊎_}
+use mathlib.Core.Logic.{⊎-elim}
 use native.Mathlib.Omega.{arith}
-use denote.Enum.Declared.{tagOf}
 use Rattle.model.specs.declared.Session.{Session}
 use Rattle.model.specs.declared.Command.{Command}
 use Rattle.model.specs.Answers.{codeOf, valueOf}
@@ -15,13 +14,9 @@ use Rattle.script.specs.declared.Reading.{Reading}
 use Rattle.script.specs.declared.Reading.the-variants.{Record, End, Refused}
 use Rattle.script.specs.Records.{kindOf, nextAt}
 use Rattle.script.specs.Lines.{lineOf}
-use Rattle.script.proofs.Reading as N
+use Rattle.script.proofs.Records.{Other}
 use Rattle.transcript.specs.declared.Course.the-variants.{Goes}
 use Rattle.transcript.specs.Turns.{Turn, turnBy, turnOf, turnWith, stoppedOf}
-
--- what the other arm of a `let .. else` knows: the reading is no record
-abbrev Other : Reading → Type 0
-Other n = (tagOf N.the-type n ≡ 1) ⊎ (tagOf N.the-type n ≡ 2)
 
 pub turn-stopped : (n : Reading) (script : List ℕ) (place : ℕ) (cells copy constants : List ℕ) (session : Session) → Other n
     → turnWith cells copy constants (stoppedOf n script place session) ≡ turnBy n script place (machineOf cells copy constants session)

@@ -4,13 +4,13 @@ use model::Session;
 use script::Reading;
 use script::Refusal;
 ghost use mathlib.Core.Path.{_≡_};
-ghost use mathlib.Core.List.{_++_};
-ghost use Prim.Native.Nat.{_+_, _*_};
+ghost use mathlib.Core.List.{List, _++_};
+ghost use Prim.Native.Nat.{ℕ, _+_, _*_};
 ghost use lib.ListN.{length, drop};
 ghost use Rattle.chip.specs.Chip.{machineOf};
 ghost use Rattle.script.specs.Records.{byteAt};
 ghost use Rattle.transcript.specs.Files.{lentWords};
-ghost use Rattle.transcript.specs.Transcript.{refusedKind};
+ghost use Rattle.transcript.specs.Transcript.{refusedKind, linesOf};
 ghost use Rattle.transcript.specs.Turns.{endedAt, refusedAt, stoppedOf, turnOf, turnWith};
 
 // How a rehearsal goes on: with a line and more to come, with a last line, or with the script's end and no line.
@@ -106,6 +106,25 @@ pub fn turn(
         course: Course::Goes,
         place: next,
         line,
+    }
+}
+
+// How many lines a script gives, whatever the image and the constants are: what its end line tells.
+pub fn line_count(script: &[u8]) -> u64
+    ensures { λ r. ⌜ ((image constants : List ℕ) → r ≡ length (linesOf (now (script .entry)) image constants)) ⌝ }
+{
+    let mut count = 0;
+    let mut place = 0;
+    loop {
+        let reading = script::next_at(script, place);
+        match reading {
+            Reading::Record(_, next) => {
+                place = next;
+                count += 1;
+            }
+            Reading::End => return count,
+            Reading::Refused(_, _) => return count + 1,
+        }
     }
 }
 

@@ -28,7 +28,9 @@ stored-digest-requires c κs = search needs
 returns-2 : tie.Need-returns-2
 returns-2 c =
     let t = c .before .before .before .before in
-    none-stored primitives map1 _ _ _ (due t (not-false _ (c .before .before .if1 .left))) (sym (c .before .stored-digest .ensures) ∙ c .if2 .taken)
+    let a = t .before .before .before .args in
+    none-stored primitives map1 (a .constants .now) (a .cells .now) (a .partition) (due t (not-false _ (c .before .before .if1 .left)))
+    (sym (c .before .stored-digest .ensures) ∙ c .if2 .taken)
 
 computed-digest-requires : tie.Need-computed-digest-requires
 computed-digest-requires c κs = search needs

@@ -1,5 +1,5 @@
--- The invariant: what waits is within the room, and the lines and the turns left are at most all turns together.
-use Prim.Native.Nat.{_+_, _≤_}
+-- The invariant: what is lent keeps its lengths, and what waits is within the room. The measure is the number of turns left.
+use Prim.Native.Nat.{_≤_}
 use mathlib.Core.Path.{_≡_}
 use lib.ListN.{length}
 use borrow.Author.Needs.{needs}
@@ -8,7 +8,7 @@ use Rattle.rehearsal.proofs.take_turns.Tie as tie
 
 abbrev Inv-loop : tie.InvT-loop
 Inv-loop script cells₀ copy₀ constants out₀ at₀ left₀ cells copy out at left =
-    (length cells ≡ length cells₀) × (length copy ≡ length copy₀) × (length out ≡ length out₀) × (at .used ≤ length out) × (at .count + left ≤ 65538)
+    (length cells ≡ length cells₀) × (length copy ≡ length copy₀) × (length out ≡ length out₀) × (at .used ≤ length out)
 
 abbrev μ-loop : tie.MeasureT-loop
 μ-loop script cells₀ copy₀ constants out₀ at₀ left₀ cells copy out at left = left

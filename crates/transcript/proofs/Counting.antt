@@ -1,0 +1,77 @@
+-- Laws of the number of lines. The idea: it depends on the script alone, and a budget above the script's length serves from every place.
+use Prim.Native.Nat.{ℕ, zero, suc, _+_, _≤_, _<_}
+use mathlib.Core.Path.{_≡_, refl, sym, ap, _∙_}
+use mathlib.Core.List.{List}
+use native.Mathlib.Numerals.{add-one}
+use native.Mathlib.Omega.{arith}
+use lib.ListN.{length}
+use Rattle.model.specs.declared.Command.{Command}
+use Rattle.model.specs.Lent.{Machine}
+use Rattle.chip.specs.Chip.{resultFor}
+use Rattle.script.specs.declared.Reading.{Reading}
+use Rattle.script.specs.declared.Reading.the-variants.{Record, End, Refused}
+use Rattle.script.specs.declared.Refusal.{Refusal}
+use Rattle.script.specs.Records.{nextAt}
+use Rattle.script.proofs.Records.{is-read}
+use Rattle.transcript.specs.Transcript.{linesFrom, chipOf, linesOf}
+
+unfoldable pub countBy : Reading → (ℕ → ℕ) → ℕ
+countBy (Record command next) rest = suc (rest next)
+countBy End rest = 0
+countBy (Refused refusal at) rest = 1
+
+-- at most n lines from a place on
+unfoldable pub countFrom : ℕ → List ℕ → ℕ → ℕ
+countFrom zero s place = 0
+countFrom (suc n) s place = countBy (nextAt s place) (countFrom n s)
+
+module _ (s : List ℕ) where
+  lines-step : (n place : ℕ) (m : Machine) → ((p : ℕ) (k : Machine) → length (linesFrom n s p k) ≡ countFrom n s p)
+      → (r : Reading) → nextAt s place ≡ r → length (linesFrom (suc n) s place m) ≡ countFrom (suc n) s place
+  unfolding linesFrom countFrom countBy
+  lines-step n place m known (Record command next) e = rw (e, linesFrom) (ap suc (known next (resultFor command m .machine)))
+  lines-step n place m known End e = rw (e, linesFrom)
+  lines-step n place m known (Refused w at) e = rw (e, linesFrom)
+
+  lines-count : (n place : ℕ) (m : Machine) → length (linesFrom n s place m) ≡ countFrom n s place
+  unfolding linesFrom countFrom
+  lines-count zero place m = refl
+  lines-count (suc n) place m = lines-step n place m (lines-count n) (nextAt s place) refl
+
+  same-step : (a b place : ℕ) → ((p : ℕ) → p ≤ length s → place < p → countFrom a s p ≡ countFrom b s p)
+      → (r : Reading) → nextAt s place ≡ r → countFrom (suc a) s place ≡ countFrom (suc b) s place
+  unfolding countFrom countBy
+  same-step a b place known (Record command next) e =
+      let i = is-read s place e in
+      rw e (ap suc (known next (i .within) (i .above)))
+  same-step a b place known End e = rw e
+  same-step a b place known (Refused w at) e = rw e
+
+  same-count : (a b place : ℕ) → place ≤ length s → length s < place + a → length s < place + b → countFrom a s place ≡ countFrom b s place
+  same-count zero b place h ha hb = absurd (omega arith)
+  same-count (suc a) zero place h ha hb = absurd (omega arith)
+  same-count (suc a) (suc b) place h ha hb =
+      same-step a b place (λ p l g. same-count a b p l (omega arith) (omega arith)) (nextAt s place) refl
+
+  -- the number of lines from a place on
+  abbrev pub linesLeft : ℕ → ℕ
+  linesLeft place = countFrom (length s + 1) s place
+
+  module _ (place : ℕ) where
+    pub left-record : {command : Command} {next : ℕ} → nextAt s place ≡ Record command next → linesLeft place ≡ suc (linesLeft next)
+    unfolding countFrom countBy
+    left-record {command} {next} e =
+        let i = is-read s place e in
+        rw (add-one, e) (ap suc (same-count (length s) (suc (length s)) next (i .within) (omega arith) (omega arith)))
+
+    pub left-end : nextAt s place ≡ End → linesLeft place ≡ 0
+    unfolding countFrom countBy
+    left-end e = rw (add-one, e)
+
+    pub left-refused : {w : Refusal} {at : ℕ} → nextAt s place ≡ Refused w at → linesLeft place ≡ 1
+    unfolding countFrom countBy
+    left-refused e = rw (add-one, e)
+
+  pub counted-lines : (image constants : List ℕ) → linesLeft 0 ≡ length (linesOf s image constants)
+  unfolding linesOf
+  counted-lines image constants = sym (lines-count (length s + 1) 0 (chipOf image constants))

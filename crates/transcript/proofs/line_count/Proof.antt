@@ -1,0 +1,86 @@
+-- The invariant: the lines counted and those left from the place on are those of the whole script.
+use Prim.Native.Nat.{ℕ, _+_, _-_, _≤_}
+use mathlib.Core.Path.{_≡_, sym, _∙_}
+use mathlib.Core.List.{List}
+use native.Mathlib.Omega.{arith}
+use lib.ListN.{length}
+use borrow.Author.Needs.{needs}
+use Rattle.script.specs.declared.Reading.the-variants.{Record}
+use Rattle.script.specs.Records.{nextAt}
+use Rattle.script.proofs.Records.{IsRead, is-read}
+use Rattle.transcript.proofs.Counting.{linesLeft, left-record, left-end, left-refused, counted-lines}
+use Rattle.transcript.proofs.line_count.Statement.{statement}
+use Rattle.transcript.proofs.line_count.Tie as tie
+
+abbrev Inv-loop : tie.InvT-loop
+Inv-loop script count₀ place₀ count place = (place ≤ length script) × (count ≤ place) × (count + linesLeft script place ≡ linesLeft script 0)
+
+abbrev μ-loop : tie.MeasureT-loop
+μ-loop script count₀ place₀ count place = length script - place
+
+abbrev script : tie.After-next-at Inv-loop μ-loop → List ℕ
+script t = t .before .before .before .args .script .now
+
+abbrev named : tie.After-known-told Inv-loop μ-loop → tie.After-next-at Inv-loop μ-loop
+named c = c .before .before .before
+
+found : (c : tie.After-known-told Inv-loop μ-loop) → nextAt (script (named c)) (named c .before .loop .place) ≡ Record (c .before .reading .given .0 .0) (c .before .reading .given .0 .1 .0)
+found c = sym (named c .next-at .ensures) ∙ c .before .reading .given .1
+
+read : (c : tie.After-known-told Inv-loop μ-loop) → IsRead (script (named c)) (named c .before .loop .place) (c .before .reading .given .0 .0) (c .before .reading .given .0 .1 .0)
+read c = is-read _ _ (found c)
+
+loop-holds : tie.Need-loop-holds Inv-loop μ-loop
+loop-holds c = (omega arith, omega arith, omega arith)
+
+next-at-requires : tie.Need-next-at-requires Inv-loop μ-loop
+next-at-requires c κs = search needs
+
+enum-known-reading : tie.Need-enum-known-reading Inv-loop μ-loop
+enum-known-reading c = search needs
+
+add-count : tie.Need-add-count Inv-loop μ-loop
+add-count c = omega arith
+
+loop-less : tie.Need-loop-less Inv-loop μ-loop
+loop-less c = let r = read c in omega (arith, r .above, r .within)
+
+loop-again : tie.Need-loop-again Inv-loop μ-loop
+loop-again c = let r = read c in (r .within, omega (arith, r .above), omega (arith, left-record (script (named c)) (named c .before .loop .place) (found c)))
+
+enum-told : tie.Need-enum-told Inv-loop μ-loop
+enum-told c = search needs
+
+returns : tie.Need-returns Inv-loop μ-loop
+returns c = λ image constants.
+    let t = c .before .before in
+    omega (arith, left-end (script t) (t .before .loop .place) (sym (t .next-at .ensures) ∙ c .enum-told .given .1), counted-lines (script t) image constants)
+
+enum-told-2 : tie.Need-enum-told-2 Inv-loop μ-loop
+enum-told-2 c = search needs
+
+add-result : tie.Need-add-result Inv-loop μ-loop
+add-result c = omega arith
+
+returns-2 : tie.Need-returns-2 Inv-loop μ-loop
+returns-2 c = λ image constants.
+    let t = c .before .before in
+    omega (arith, left-refused (script t) (t .before .loop .place) (sym (t .next-at .ensures) ∙ c .enum-told2 .given .1), counted-lines (script t) image constants)
+
+pub line-count-spec : {M : Type 1} → statement M
+line-count-spec =
+    tie.close
+    (tie.spec
+    Inv-loop
+    μ-loop
+    loop-holds
+    next-at-requires
+    enum-known-reading
+    add-count
+    loop-less
+    loop-again
+    enum-told
+    returns
+    enum-told-2
+    add-result
+    returns-2)
