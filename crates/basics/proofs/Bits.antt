@@ -1,10 +1,10 @@
 -- Laws of bits and of the library's or, and and exclusive or. The idea: shift to the bit, then look at the lowest one.
 use mathlib.Core.Path.{_≡_, refl, sym, ap, ap₂, _∙_}
-use Prim.Native.Nat.{ℕ, zero, suc, _+_, _*_, _/_, _%_, _^_, _≤_, _<_, max, min}
+use Prim.Native.Nat.{ℕ, zero, suc, _+_, _*_, _/_, _%_, _^_, _≤_, _<_, max}
 use native.Mathlib.Nat.{mod-lt, div-add-mod', pow-suc}
 use native.Mathlib.Omega.{arith}
 use lib.Arith.{bin-ind}
-use lib.Bits.{bitAnd, bitOr, bitXor, differ, or-step, or-shr, or-zero-l, xor-step, xor-self, xor-shr, xor-mod, or-shifted-r}
+use lib.Bits.{bitOr, bitXor, differ, or-step, or-shr, or-zero-l, xor-step, xor-self, xor-shr, xor-mod, or-shifted-r}
 use lib.Pow.{pow-pos, shl-exact, shr-shr}
 use Rattle.basics.specs.Digits.{bit}
 

@@ -1,15 +1,13 @@
 -- The judgement, against the first two refusals of a step. The idea: Map 1 ends at 0x380, so its array has 448 words.
 use mathlib.Core.Path.{_≡_, refl, sym, ap, _∙_}
-use mathlib.Core.Bool.{Bool, true, false, not, _&&_}
+use mathlib.Core.Bool.{Bool, true, false, _&&_}
 use mathlib.Core.List.{List}
-use Prim.Native.Nat.{ℕ, _/_}
+use Prim.Native.Nat.{ℕ}
 use native.Mathlib.Omega.{arith}
 use lib.Dec.{eqb}
 use lib.ListN.{length}
 use borrow.Author.Tests.{eq-eqb, ne-eqb, eqb-true}
-use Rattle.basics.specs.Choice.{if_then_else_}
 use Rattle.basics.proofs.Choice.{by-cases, if-true, if-false, and-left, and-right}
-use Rattle.partitions.specs.Map.{limit}
 use Rattle.partitions.specs.Map1.{map1}
 use Rattle.partitions.proofs.Map1.{map1-limit}
 use Rattle.life_cycle.specs.Constants.{validConstants}
@@ -17,8 +15,7 @@ use Rattle.model.specs.declared.Answer.{Answer}
 use Rattle.model.specs.declared.Answer.the-variants.{WrongLength, InvalidConstants}
 use Rattle.model.specs.declared.Command.{Command}
 use Rattle.model.specs.Lent.{Lent, Machine, rightLengths}
-use Rattle.model.specs.Step.{Result, Step, unchanged, obey, step}
-use Rattle.chip.specs.declared.Judged.{Judged}
+use Rattle.model.specs.Step.{Step, unchanged, obey, step}
 use Rattle.chip.specs.declared.Judged.the-variants.{Accepted, Refused}
 use Rattle.chip.specs.Chip.{primitives, resultFor}
 use Rattle.chip.specs.Judging.{judgedOf}

@@ -1,6 +1,6 @@
 -- What every command judges first: "Every command is lent all three and judges all three lengths." Then the constants.
 use Prim.Native.Nat.{ℕ}
-use mathlib.Core.Bool.{Bool, not, _&&_}
+use mathlib.Core.Bool.{not, _&&_}
 use mathlib.Core.List.{List}
 use lib.Dec.{eqb}
 use lib.ListN.{length}

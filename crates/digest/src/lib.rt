@@ -1,7 +1,7 @@
 // The digest construction over the block cipher.
 ghost use mathlib.Core.Path.{_≡_};
 ghost use Prim.Native.Nat.{_+_, _*_, _^_, _<_};
-ghost use lib.ListN.{length, drop};
+ghost use lib.ListN.{length};
 ghost use Rattle.words.specs.Words.{numberOf, partAt};
 ghost use Rattle.digest.specs.Digest.{absorb, absorbAll, blocksOf, digestWords};
 

@@ -1,9 +1,8 @@
 -- The transition table, row by row as document 01 has it, and the token that each row needs.
 use Prim.Native.Nat.{ℕ, _-_, _/_, _%_}
-use mathlib.Core.Bool.{Bool, true, false, _&&_, _||_}
+use mathlib.Core.Bool.{Bool, _&&_, _||_}
 use lib.Dec.{eqb, leb, ltb}
 use Rattle.basics.specs.Choice.{if_then_else_}
-use Rattle.life_cycle.specs.declared.Token.{Token}
 use Rattle.life_cycle.specs.declared.Token.the-variants.{Nothing, RawUnlock, TestUnlock, TestExit, Rma}
 use Rattle.life_cycle.specs.declared.Entry.{Entry}
 use Rattle.life_cycle.specs.declared.Entry.the-variants.{Allowed, Forbidden}

@@ -1,5 +1,5 @@
 -- The table of cases holds: the checker computes each case from the definitions, the cipher and the digest being variables.
-use mathlib.Core.Path.{_≡_, refl}
+use mathlib.Core.Path.{refl}
 use Prim.Native.Nat.{ℕ}
 use Rattle.model.specs.Lent.{Primitives}
 use Rattle.model.specs.Cases.{table, Hold}

@@ -1,23 +1,21 @@
 -- Two chips that differ only in hidden words answer alike. The idea: both decide the same act, since what an act depends on shows; a performed
 -- act changes no hidden word; and hidden partitions stay locked.
 use mathlib.Core.Path.{_≡_, refl, sym, ap, ap₂, subst, _∙_}
-use mathlib.Core.Bool.{Bool, true, false, not, _&&_, _||_}
+use mathlib.Core.Bool.{Bool, true, false, _&&_}
 use mathlib.Core.List.{List, [], _∷_}
-use mathlib.Core.Option.{Option}
-use Prim.Native.Nat.{ℕ, zero, suc, _+_, _*_, _-_, _/_, _≤_, _<_}
-use native.Mathlib.Nat.{zero-add}
+use Prim.Native.Nat.{ℕ, suc, _+_, _*_, _-_, _/_, _≤_, _<_}
 use native.Mathlib.Omega.{arith}
-use lib.Dec.{eqb, leb, ltb}
+use lib.Dec.{eqb, ltb}
 use lib.ListN.{length, getD, set, length-set}
-use lib.Seq.{sets, length-sets, getD-set-same, getD-set-other, set-out}
-use borrow.Author.Tests.{leb-true, leb-false, le-leb, lt-leb, eqb-true, eqb-false, ltb-true, ltb-false, not-true, not-false}
+use lib.Seq.{sets, getD-set-same, getD-set-other, set-out}
+use borrow.Author.Tests.{leb-false, eqb-true, eqb-false, ltb-true, ltb-false, not-false}
 use Rattle.basics.specs.Choice.{if_then_else_}
 use Rattle.basics.specs.Range.{listed}
 use Rattle.basics.proofs.Choice.{by-cases, true-not-false, not-passed, if-true, if-false}
 use Rattle.basics.proofs.Range.{listed-at}
 use Rattle.words.specs.declared.Programmed.{Programmed}
 use Rattle.words.specs.declared.Programmed.the-variants as programmed
-use Rattle.words.specs.Words.{numberOf, partAt}
+use Rattle.words.specs.Words.{numberOf}
 use Rattle.words.specs.Programming.{programAnswer, programCells}
 use Rattle.words.proofs.Parts.{part-same}
 use Rattle.words.proofs.Programming.{answer-same, by-answer, stored-done, stored-refused, program-length}
@@ -35,13 +33,13 @@ use Rattle.model.specs.declared.Answer.the-variants.{Done}
 use Rattle.model.specs.declared.Session.{Session}
 use Rattle.model.specs.declared.Command.{Command}
 use Rattle.model.specs.declared.Command.the-variants.{Read, Write, FrontRead, Digest, ReadLock, Transition, PowerUp}
-use Rattle.model.specs.Session.{isReady, sensedAt, sensedLocked, readLocked}
-use Rattle.model.specs.Lent.{Lent, Machine, Primitives, digestStart, digestFinal}
-use Rattle.model.specs.Acts.{Turn, stay, turned, Act, say, program, compare, Performed, afterProgram, noting, perform}
+use Rattle.model.specs.Session.{isReady, sensedAt, sensedLocked}
+use Rattle.model.specs.Lent.{Machine, Primitives, digestStart, digestFinal}
+use Rattle.model.specs.Acts.{stay, turned, Act, say, Performed, afterProgram, noting, perform}
 use Rattle.model.specs.Commands.{granule, storedDigest, dataWords, computedDigest, unscrambled, counterAt, stateAt, writeAct, readAct, frontReadAct, digestAct, readLockAct, transitionAct, tokenAct, lockedTokenAct, entryAct, moveAct, commandAct, readyAct}
-use Rattle.model.specs.PowerUp.{digests, Waking, fails, wakes, waking, wakingOf, verdictOf, lifeCycleIn, copyWord, wokenCopy, wokenSession, wokenAnswer}
+use Rattle.model.specs.PowerUp.{digests, Waking, fails, wakes, waking, wakingOf, lifeCycleIn, copyWord, wokenCopy, wokenSession, wokenAnswer}
 use Rattle.model.specs.Step.{Step, performed, act, powerUp, obey, step, after, answers}
-use Rattle.model.specs.Terms.{Right, Digested, Agree, Matched, Hidden, HiddenWord, Alike}
+use Rattle.model.specs.Terms.{Right, Digested, Agree, Matched, Hidden, Alike}
 use Rattle.model.proofs.Acts.{Within, says, programs, compares, within-map}
 use Rattle.model.proofs.Frame.{Open, unlocked, lifeCycle, not-locked, life-words, act-within}
 use Rattle.model.proofs.Steps.{step-obeys, step-up, cells-length, up-right, act-right}

@@ -1,39 +1,35 @@
 -- The device code is final, and only a power-up senses. The idea: every power-up that succeeds latches the words of a locked partition as they
 -- were when it was found locked, and no other command writes the copy.
 use mathlib.Core.Path.{_≡_, refl, sym, ap, _∙_}
-use mathlib.Core.Bool.{Bool, true, false, not}
+use mathlib.Core.Bool.{true, not}
 use mathlib.Core.List.{List, [], _∷_, _++_}
 use Prim.Native.Nat.{ℕ, _+_, _*_, _/_, _≤_, _<_}
 use native.Mathlib.Omega.{arith}
-use lib.Dec.{leb}
-use lib.ListN.{length, getD}
+use lib.ListN.{getD}
 use borrow.Author.Tests.{leb-false, not-false}
-use Rattle.basics.specs.Choice.{if_then_else_}
 use Rattle.basics.specs.Range.{listed}
 use Rattle.basics.proofs.Choice.{true-not-false, if-both}
 use Rattle.basics.proofs.Range.{listed-at}
-use Rattle.words.specs.Words.{numberOf, partAt}
+use Rattle.words.specs.Words.{numberOf}
 use Rattle.words.proofs.Parts.{part-same}
-use Rattle.partitions.specs.Map.{Map, rightsOf, numberAt, partition, partitionAt, limit, inDigest, firstWord, wordCount}
+use Rattle.partitions.specs.Map.{Map, rightsOf, numberAt, partition, partitionAt, limit, firstWord, wordCount}
 use Rattle.partitions.specs.Fitness.{fit}
 use Rattle.partitions.proofs.Map.{only, partition-at, partition-fit, end-within}
 use Rattle.partitions.proofs.Granules.{word-inside}
-use Rattle.model.specs.declared.Answer.{Answer}
 use Rattle.model.specs.declared.Answer.the-variants.{Done, Denied, NotReady}
-use Rattle.model.specs.declared.Session.{Session}
 use Rattle.model.specs.declared.Command.{Command}
 use Rattle.model.specs.declared.Command.the-variants.{Read, Write, FrontRead, Digest, ReadLock, Transition, PowerUp}
 use Rattle.model.specs.Session.{isReady}
 use Rattle.life_cycle.specs.Constants.{validConstants}
 use Rattle.model.specs.Lent.{Lent, Machine, Primitives, rightLengths}
-use Rattle.model.specs.Acts.{Act, say, turned, perform}
+use Rattle.model.specs.Acts.{Act, perform}
 use Rattle.model.specs.Commands.{granule, storedDigest, frontReadAct, commandAct, readyAct}
 use Rattle.model.specs.PowerUp.{Waking, fails, wakes, waking, copyWord, wokenCopy, wokenSession}
 use Rattle.model.specs.Step.{Step, unchanged, performed, act, powerUp, obey, step, after}
 use Rattle.model.specs.Terms.{Right, Digested, SamePartition}
 use Rattle.model.specs.Beyond.{quiet, Quiet}
-use Rattle.model.proofs.Steps.{after-append, step-all, step-obeys, step-up, step-right, after-right}
-use Rattle.model.proofs.Locks.{same-refl, same-trans, turned-ready, turned-sensed, Locked, up-locked, step-locked, after-locked}
+use Rattle.model.proofs.Steps.{after-append, step-all, step-obeys, step-up, after-right}
+use Rattle.model.proofs.Locks.{same-refl, same-trans, turned-ready, turned-sensed, Locked, up-locked, step-locked}
 use Rattle.model.proofs.Chips.{front-latched}
 
 -- ---- what a front read that answers 0 shows

@@ -1,16 +1,15 @@
 -- Premises are met: computed runs beside the theorems. The toy cipher of the runs flips the lowest bit of a block, and the toy digest is always 1.
 use mathlib.Core.Path.{_≡_, refl, sym, subst}
-use mathlib.Core.Bool.{true, false}
+use mathlib.Core.Bool.{true}
 use mathlib.Core.List.{List, [], _∷_, _++_}
-use mathlib.Core.Option.{none}
-use Prim.Native.Nat.{ℕ, _^_, _*_, _≤_, _<_}
+use Prim.Native.Nat.{ℕ, _<_}
 use native.Mathlib.Omega.{arith}
 use lib.Bits.{bitXor, xor-lt}
 use lib.Dec.{eqb, ltb, lit<}
 use lib.ListN.{length, getD, set, replicate, List·getD-eq-default}
 use lib.Seq.{getD-set-other}
 use borrow.Author.Tests.{eqb-true, eqb-false, ltb-true, ltb-false}
-use Rattle.basics.proofs.Choice.{by-cases, from-T}
+use Rattle.basics.proofs.Choice.{by-cases}
 use Rattle.basics.proofs.Range.{all-at}
 use Rattle.basics.proofs.Bits.{xor-xor}
 use Rattle.partitions.specs.Map.{partition}
@@ -25,7 +24,7 @@ use Rattle.model.specs.Commands.{storedDigest}
 use Rattle.model.specs.PowerUp.{lifeCycleIn}
 use Rattle.model.specs.Step.{step, after, answers}
 use Rattle.model.specs.Cases.{chip, blank}
-use Rattle.model.specs.Terms.{Right, Cipher, Digested, Lasts, Allowed, Matched, HiddenWord, Hidden, Alike}
+use Rattle.model.specs.Terms.{Right, Cipher, Digested, Lasts, Allowed, Matched, HiddenWord, Alike}
 use Rattle.model.specs.Demand3.{Demand3, Ready}
 use Rattle.model.proofs.Everything.{everything}
 use Rattle.model.proofs.Theorems.{demand3}

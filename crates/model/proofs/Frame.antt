@@ -1,25 +1,18 @@
 -- Where each command may program. The idea: one walk over the commands; a word that is programmed lies in a partition whose sensed digest is
 -- zero, or in the life cycle words of a transition.
-use mathlib.Core.Path.{_≡_, refl, sym, ap, _∙_}
-use mathlib.Core.Bool.{Bool, true, false, not, _&&_}
-use mathlib.Core.List.{List, [], _∷_}
-use Prim.Native.Nat.{ℕ, suc, _+_, _*_, _/_, _≤_, _<_}
+use mathlib.Core.Path.{_≡_, refl}
+use mathlib.Core.Bool.{Bool, true, false}
+use Prim.Native.Nat.{ℕ, suc, _+_, _*_, _≤_, _<_}
 use native.Mathlib.Omega.{arith}
-use lib.Dec.{eqb, leb}
-use lib.ListN.{length}
-use borrow.Author.Tests.{leb-true, leb-false, eqb-true, not-true, not-false}
-use Rattle.basics.specs.Choice.{if_then_else_}
-use Rattle.basics.proofs.Range.{length-listed}
-use Rattle.words.specs.Words.{wordsOf}
+use borrow.Author.Tests.{leb-false, eqb-true, not-false}
 use Rattle.words.proofs.Words.{length-words}
-use Rattle.partitions.specs.declared.Kind.{Kind}
 use Rattle.partitions.specs.declared.Kind.the-variants as kind
 use Rattle.partitions.specs.Fitness.{fit}
 use Rattle.partitions.proofs.KindRights.{hardware-direct}
 use Rattle.partitions.proofs.Map.{inside, life-cycle-word}
 use Rattle.partitions.proofs.Granules.{word-number, digest-word}
 use Rattle.life_cycle.proofs.Encoding.{counter-length, state-length}
-use Rattle.partitions.specs.Map.{Map, rightsOf, numberAt, partition, partitionAt, limit, inDigest, firstWord, wordCount, numberOfKind}
+use Rattle.partitions.specs.Map.{Map, rightsOf, numberAt, partition, partitionAt, numberOfKind}
 use Rattle.life_cycle.specs.declared.Token.{Token}
 use Rattle.life_cycle.specs.declared.Token.the-variants.{Nothing, RawUnlock, TestUnlock, TestExit, Rma}
 use Rattle.life_cycle.specs.declared.Entry.{Entry}
@@ -31,7 +24,6 @@ use Rattle.model.specs.declared.Command.{Command}
 use Rattle.model.specs.declared.Command.the-variants.{Read, Write, FrontRead, Digest, ReadLock, Transition, PowerUp}
 use Rattle.model.specs.Session.{isReady, sensedAt, sensedLocked}
 use Rattle.model.specs.Lent.{Machine, Primitives}
-use Rattle.model.specs.Acts.{Act}
 use Rattle.model.specs.Commands.{counterAt, stateAt, writeAct, readAct, frontReadAct, digestAct, readLockAct, moveAct, lockedTokenAct, tokenAct, entryAct, transitionAct, commandAct, readyAct}
 use Rattle.model.proofs.Acts.{Within, says, programs, compares, within-if}
 

@@ -1,30 +1,28 @@
 -- A partition that a power-up found locked never changes. The idea: its stored digest is nonzero, so every power-up that succeeds senses it,
 -- and no command programs a partition whose sensed digest is nonzero.
 use mathlib.Core.Path.{_≡_, refl, sym, ap, _∙_}
-use mathlib.Core.Bool.{Bool, true, false}
+use mathlib.Core.Bool.{true}
 use mathlib.Core.List.{List, [], _∷_, _++_}
 use Prim.Native.Nat.{ℕ, zero, suc, _+_, _*_, _/_, _≤_, _<_}
 use native.Mathlib.Omega.{arith}
 use lib.Dec.{ltb}
 use lib.ListN.{length, getD}
 use borrow.Author.Tests.{ltb-true, ltb-false}
-use Rattle.basics.specs.Choice.{if_then_else_}
 use Rattle.basics.proofs.Choice.{by-cases, true-not-false, if-true}
-use Rattle.words.specs.Words.{numberOf, partAt}
+use Rattle.words.specs.Words.{numberOf}
 use Rattle.words.proofs.Parts.{part-same}
 use Rattle.partitions.specs.declared.Kind.the-variants as kind
 use Rattle.partitions.specs.declared.Partition.{Partition}
 use Rattle.partitions.specs.Fitness.{fit}
 use Rattle.partitions.proofs.Map.{only, partition-fit, direct-before-last, life-cycle-partition}
-use Rattle.partitions.specs.Map.{Map, rightsOf, numberAt, partition, partitionAt, numberOfKind}
-use Rattle.model.specs.declared.Phase.{Phase}
+use Rattle.partitions.specs.Map.{Map, rightsOf, partition, numberOfKind}
 use Rattle.model.specs.declared.Session.{Session}
 use Rattle.model.specs.declared.Command.{Command}
 use Rattle.model.specs.declared.Command.the-variants.{PowerUp}
 use Rattle.model.specs.Session.{isReady, sensedAt}
 use Rattle.model.specs.Lent.{Lent, Machine, Primitives}
-use Rattle.model.specs.Acts.{Turn, stay, lock, halt, die, turned, perform}
-use Rattle.model.specs.Commands.{storedDigest, readyAct}
+use Rattle.model.specs.Acts.{Turn, stay, lock, halt, die, turned}
+use Rattle.model.specs.Commands.{storedDigest}
 use Rattle.model.specs.PowerUp.{digests, Waking, fails, wakes, waking, wokenSession}
 use Rattle.model.specs.Step.{Step, unchanged, performed, act, powerUp, step, after}
 use Rattle.model.specs.Terms.{Right, Digested, SamePartition}

@@ -1,16 +1,15 @@
 -- What lasts while a chip is Ready. The idea: a command after which Ready lasts is an act whose turn leaves the phase, the sensed digests and
 -- the lengths; so the record still tells what the last power-up found.
-use mathlib.Core.Path.{_≡_, refl, sym, ap, subst, _∙_}
-use mathlib.Core.Bool.{Bool, true, false, not}
+use mathlib.Core.Path.{_≡_, refl, sym, subst, _∙_}
+use mathlib.Core.Bool.{Bool, true, not}
 use mathlib.Core.List.{List, [], _∷_}
-use Prim.Native.Nat.{ℕ, suc, _/_, _<_}
+use Prim.Native.Nat.{ℕ}
 use native.Mathlib.Omega.{arith}
 use lib.Dec.{T, T-not, eqb}
-use lib.ListN.{length, getD}
 use Rattle.basics.specs.Choice.{if_then_else_}
 use Rattle.basics.proofs.Choice.{if-both}
 use Rattle.partitions.specs.Fitness.{fit}
-use Rattle.partitions.specs.Map.{Map, rightsOf, partition, partitionAt}
+use Rattle.partitions.specs.Map.{Map, partition}
 use mathlib.Core.Option.{Option, none, some}
 use Rattle.life_cycle.specs.declared.LifeCycle.{LifeCycle}
 use Rattle.life_cycle.specs.declared.LifeCycle.the-variants.{Valid, Invalid}
@@ -20,21 +19,19 @@ use Rattle.life_cycle.specs.declared.Entry.{Entry}
 use Rattle.life_cycle.specs.declared.Entry.the-variants.{Allowed, Forbidden}
 use Rattle.life_cycle.specs.Transitions.{transition}
 use Rattle.model.specs.declared.Answer.{Answer}
-use Rattle.model.specs.declared.Answer.the-variants.{Done, Cleared, DigestFailed, LifeCycleFailed}
-use Rattle.model.specs.declared.Reason.{Reason}
 use Rattle.model.specs.declared.Session.{Session}
 use Rattle.model.specs.declared.Command.{Command}
 use Rattle.model.specs.declared.Command.the-variants.{Read, Write, FrontRead, Digest, ReadLock, Transition, PowerUp}
 use Rattle.model.specs.Answers.{codeOf}
 use Rattle.model.specs.Session.{isReady, sensedAt}
-use Rattle.model.specs.Lent.{Lent, Machine, Primitives}
-use Rattle.model.specs.Acts.{Turn, stay, lock, halt, die, turned, Act, say, program, compare, Performed, perform}
+use Rattle.model.specs.Lent.{Machine, Primitives}
+use Rattle.model.specs.Acts.{Turn, stay, lock, halt, die, turned, Act, perform}
 use Rattle.model.specs.Commands.{storedDigest, writeAct, readAct, frontReadAct, digestAct, readLockAct, moveAct, lockedTokenAct, tokenAct, entryAct, transitionAct, commandAct, readyAct}
-use Rattle.model.specs.PowerUp.{digests, Waking, fails, wakes, waking, wakingOf, lifeCycleWaking, verdictOf, lifeCycleIn, wokenSession, wokenAnswer}
-use Rattle.model.specs.Step.{Step, performed, act, powerUp, obey, step, after}
+use Rattle.model.specs.PowerUp.{Waking, wakes, waking, wakingOf, lifeCycleWaking, wokenSession, wokenAnswer}
+use Rattle.model.specs.Step.{performed, act, powerUp, obey, step, after}
 use Rattle.model.specs.Terms.{Right, Digested, staysReady, Lasts}
 use Rattle.model.proofs.Acts.{Gives, perform-gives, gives-if}
-use Rattle.model.proofs.Steps.{step-obeys, step-up, step-right, up-right, act-right, after-right}
+use Rattle.model.proofs.Steps.{step-obeys, step-up, up-right, act-right}
 use Rattle.model.proofs.Locks.{turned-sensed, sensed-stored}
 
 -- a turn that leaves the phase

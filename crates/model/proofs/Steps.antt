@@ -1,15 +1,12 @@
 -- One command and lists of commands, whatever the command. The idea: a step is a refusal that changes nothing, a power-up or a performed act.
-use mathlib.Core.Path.{_≡_, refl, sym, ap, _∙_}
-use mathlib.Core.Bool.{Bool, true, false, not, _&&_}
+use mathlib.Core.Path.{_≡_, refl, _∙_}
+use mathlib.Core.Bool.{Bool, true, not, _&&_}
 use mathlib.Core.List.{List, [], _∷_, _++_}
-use mathlib.Core.Option.{Option}
-use Prim.Native.Nat.{ℕ, _/_, _<_}
+use Prim.Native.Nat.{ℕ, _/_}
 use lib.Dec.{eqb}
-use lib.ListN.{length, getD}
+use lib.ListN.{length}
 use borrow.Author.Tests.{eqb-true, eq-eqb}
-use Rattle.basics.specs.Choice.{if_then_else_}
-use Rattle.basics.specs.Range.{listed}
-use Rattle.basics.proofs.Choice.{if-both, if-false, and-left, and-right, and-both}
+use Rattle.basics.proofs.Choice.{if-both, if-false, and-left, and-right}
 use Rattle.basics.proofs.Range.{length-listed}
 use Rattle.words.specs.Programming.{Kept}
 use Rattle.words.proofs.Programming.{kept-refl, kept-trans}
@@ -20,9 +17,8 @@ use Rattle.model.specs.declared.Answer.the-variants.{WrongLength, Invali
 use Rattle.model.specs.declared.Command.{Command}
 use Rattle.model.specs.declared.Command.the-variants.{Read, Write, FrontRead, Digest, ReadLock, Transition, PowerUp}
 use Rattle.model.specs.Lent.{Lent, Machine, Primitives, rightLengths}
-use Rattle.model.specs.Acts.{perform}
 use Rattle.model.specs.Commands.{readyAct}
-use Rattle.model.specs.PowerUp.{Waking, fails, wakes, waking, wokenCopy}
+use Rattle.model.specs.PowerUp.{Waking, fails, wakes, wokenCopy}
 use Rattle.model.specs.Step.{Step, unchanged, performed, act, powerUp, obey, step, after}
 use Rattle.model.specs.Terms.{Right}
 use Rattle.model.proofs.Acts.{perform-kept, perform-length}

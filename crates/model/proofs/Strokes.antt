@@ -1,16 +1,15 @@
 -- Transitions from power-up on. The idea: while the phase is Ready the cells hold the record's state and count; the words of one stroke more,
 -- and of an allowed state, cover those words, so no transition answers 4, and what is decoded only moves along the table.
 use mathlib.Core.Path.{_≡_, refl, sym, ap, ap₂, subst, _∙_}
-use mathlib.Core.Bool.{Bool, true, false, not, _&&_}
+use mathlib.Core.Bool.{Bool, true, false, not}
 use mathlib.Core.List.{List, [], _∷_, _++_}
 use mathlib.Core.Option.{Option, none, some}
-use Prim.Native.Nat.{ℕ, suc, _+_, _*_, _/_, _^_, _≤_, _<_}
+use Prim.Native.Nat.{ℕ, suc, _+_, _*_, _^_, _≤_, _<_}
 use native.Mathlib.Omega.{arith}
-use lib.Dec.{T, T-not, eqb, leb, ltb}
+use lib.Dec.{T, T-not, eqb}
 use lib.ListN.{length, getD}
-use borrow.Author.Tests.{ltb-true, leb-true, not-false}
-use Rattle.basics.specs.Choice.{if_then_else_}
-use Rattle.basics.proofs.Choice.{true-not-false, and-left, and-right, if-both, if-false}
+use borrow.Author.Tests.{ltb-true, not-false}
+use Rattle.basics.proofs.Choice.{true-not-false, if-both}
 use Rattle.words.specs.declared.Programmed.the-variants as programmed
 use Rattle.words.specs.Words.{partAt}
 use Rattle.words.specs.Programming.{programAnswer, programCells}
@@ -18,7 +17,7 @@ use Rattle.words.proofs.Words.{Words}
 use Rattle.words.proofs.Parts.{part-same}
 use Rattle.words.proofs.Programming.{program-elsewhere, program-takes, program-length}
 use Rattle.partitions.specs.declared.Kind.the-variants as kind
-use Rattle.partitions.specs.Map.{Map, rightsOf, numberAt, partition, partitionAt, limit, numberOfKind}
+use Rattle.partitions.specs.Map.{Map, partitionAt, numberOfKind}
 use Rattle.partitions.specs.Fitness.{fit}
 use Rattle.partitions.proofs.Map.{life-cycle-last, life-cycle-partition, partition-fit}
 use Rattle.life_cycle.specs.declared.LifeCycle.{LifeCycle}
@@ -43,7 +42,7 @@ use Rattle.model.specs.Session.{isReady}
 use Rattle.model.specs.Lent.{Lent, Machine, Primitives}
 use Rattle.model.specs.Acts.{Turn, stay, lock, halt, die, turned, Act, say, program, compare, Performed, afterProgram, noting, perform}
 use Rattle.model.specs.Commands.{counterAt, stateAt, moveAct, lockedTokenAct, tokenAct, entryAct, transitionAct, commandAct, readyAct}
-use Rattle.model.specs.PowerUp.{Waking, fails, wakes, waking, wakingOf, lifeCycleWaking, verdictOf, lifeCycleIn, wokenSession}
+use Rattle.model.specs.PowerUp.{Waking, waking, wakingOf, lifeCycleWaking, verdictOf, lifeCycleIn, wokenSession}
 use Rattle.model.specs.Step.{Step, unchanged, performed, act, powerUp, obey, step, after}
 use Rattle.model.specs.Terms.{Right}
 use Rattle.model.specs.Beyond.{Course, stays, spends, moves, Rising}

@@ -3,18 +3,15 @@
 use mathlib.Core.Path.{_≡_, refl, sym, ap, ap₂, _∙_}
 use mathlib.Core.Bool.{Bool, true, false, not, _&&_}
 use mathlib.Core.List.{List, [], _∷_}
-use Prim.Native.Nat.{ℕ, _+_, _*_, _%_, _/_, _^_, _≤_, _<_}
+use Prim.Native.Nat.{ℕ, _+_, _*_, _/_, _^_, _≤_, _<_}
 use native.Mathlib.Nat.{mod-eq-of-lt}
 use native.Mathlib.Omega.{arith}
-use lib.Dec.{eqb, leb, ltb, lit<}
-use lib.ListN.{length, getD, List·getD-eq-default}
-use lib.Seq.{sets}
-use borrow.Author.Tests.{leb-true, leb-false, le-leb, lt-leb, eq-eqb, ltb-true, ltb-false, not-true, not-false}
-use Rattle.basics.specs.Choice.{if_then_else_}
+use lib.Dec.{ltb, lit<}
+use lib.ListN.{getD, List·getD-eq-default}
+use borrow.Author.Tests.{leb-false, lt-leb, eq-eqb, ltb-true, ltb-false, not-false}
 use Rattle.basics.specs.Range.{listed}
 use Rattle.basics.proofs.Choice.{by-cases, true-not-false, not-passed, and-both, if-true, if-false, if-both}
 use Rattle.basics.proofs.Range.{listed-from, length-listed}
-use Rattle.words.specs.declared.Programmed.{Programmed}
 use Rattle.words.specs.declared.Programmed.the-variants as programmed
 use Rattle.words.specs.Words.{numberOf, wordsOf, partAt}
 use Rattle.words.specs.Programming.{programAnswer, programCells}
@@ -28,18 +25,16 @@ use Rattle.partitions.specs.Fitness.{fit}
 use Rattle.partitions.proofs.KindRights.{hardware-direct, scrambled-hardware}
 use Rattle.partitions.proofs.Map.{inside}
 use Rattle.partitions.proofs.Granules.{OneGranule, scrambled-words, granule-inside, granule-within, word-inside, word-number, shared-word, digest-word}
-use Rattle.partitions.specs.Map.{Map, rightsOf, numberAt, partition, partitionAt, limit, inDigest, firstWord, wordCount}
-use Rattle.model.specs.declared.Answer.{Answer}
-use Rattle.model.specs.declared.Answer.the-variants.{Done, Cleared, Denied}
-use Rattle.model.specs.declared.Session.{Session}
+use Rattle.partitions.specs.Map.{Map, rightsOf, numberAt, partitionAt, limit, inDigest, firstWord, wordCount}
+use Rattle.model.specs.declared.Answer.the-variants.{Done}
 use Rattle.model.specs.declared.Command.{Command}
 use Rattle.model.specs.declared.Command.the-variants.{Read, Write, FrontRead, Digest, ReadLock, Transition, PowerUp}
 use Rattle.model.specs.Answers.{codeOf}
-use Rattle.model.specs.Session.{isReady, sensedAt, sensedLocked, readLocked}
-use Rattle.model.specs.Lent.{Lent, Machine, Primitives, keyOf}
-use Rattle.model.specs.Acts.{Turn, stay, Act, say, program, Performed, afterProgram, perform}
+use Rattle.model.specs.Session.{sensedLocked, readLocked}
+use Rattle.model.specs.Lent.{Machine, Primitives, keyOf}
+use Rattle.model.specs.Acts.{stay, Act, say, Performed, afterProgram, perform}
 use Rattle.model.specs.Commands.{granule, storedDigest, scrambled, unscrambled, writeAct, readAct, frontReadAct, digestAct, readLockAct, commandAct, readyAct}
-use Rattle.model.specs.Step.{Step, performed, act, powerUp, step, after}
+use Rattle.model.specs.Step.{Step, performed, act, step, after}
 use Rattle.model.specs.Terms.{Right, Cipher, Digested, staysReady, spares, storedWords, usedValue, Lasts, Spared, Allowed, TakesEffect}
 use Rattle.model.proofs.Acts.{after-both, Within, says, programs, within-if, perform-frame}
 use Rattle.model.proofs.Steps.{cells-length, step-right, after-right, step-constants, after-constants}

@@ -1,7 +1,7 @@
 -- The commands but power-up, each in the paper's order of refusals, over any primitives and map. What each may do is in the sentence above it.
 use Prim.Native.Nat.{ℕ, suc, _+_, _*_, _-_, _/_, _^_}
-use mathlib.Core.Bool.{Bool, true, false, not, _&&_, _||_}
-use mathlib.Core.List.{List, []}
+use mathlib.Core.Bool.{Bool, not, _&&_}
+use mathlib.Core.List.{List}
 use lib.Dec.{eqb, leb, ltb}
 use Rattle.basics.specs.Choice.{if_then_else_}
 use Rattle.words.specs.Words.{numberOf, wordsOf, partAt}
@@ -20,7 +20,7 @@ use Rattle.model.specs.declared.Answer.the-variants.{Done, Denied, NotRe
 use Rattle.model.specs.declared.Command.{Command}
 use Rattle.model.specs.declared.Command.the-variants.{Read, Write, FrontRead, Digest, ReadLock, Transition, PowerUp}
 use Rattle.model.specs.Session.{isReady, sensedLocked, readLocked}
-use Rattle.model.specs.Lent.{Lent, Machine, Primitives, keyOf, digestStart, digestFinal, rawToken}
+use Rattle.model.specs.Lent.{Machine, Primitives, keyOf, digestStart, digestFinal, rawToken}
 use Rattle.model.specs.Acts.{stay, lock, halt, die, Act, say, program, compare, refuse}
 
 -- the granule of an address in the cells or in the copy

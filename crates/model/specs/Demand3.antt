@@ -1,8 +1,8 @@
 -- Demand 3, whole: one claim over every list of commands that begins with a power-up.
-use Prim.Native.Nat.{ℕ, _+_, _*_, _^_, _<_}
+use Prim.Native.Nat.{ℕ, _+_, _^_, _<_}
 use mathlib.Core.Path.{_≡_}
 use mathlib.Core.Bool.{false}
-use mathlib.Core.List.{List, [], _∷_, _++_}
+use mathlib.Core.List.{List, _∷_, _++_}
 use Rattle.words.specs.Programming.{Kept}
 use Rattle.partitions.specs.Map.{Map, numberAt, partition, partitionAt, limit, inDigest, firstWord}
 use Rattle.model.specs.declared.Answer.the-variants.{Done}

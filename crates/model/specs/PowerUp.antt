@@ -1,6 +1,6 @@
 -- Power-up, "from any phase".
 use Prim.Native.Nat.{ℕ, suc, _+_, _*_, _-_, _/_}
-use mathlib.Core.Bool.{Bool, true, false, not, _&&_, _||_}
+use mathlib.Core.Bool.{Bool, false, not, _&&_, _||_}
 use mathlib.Core.List.{List, [], _∷_}
 use mathlib.Core.Option.{Option, none, some}
 use lib.Dec.{eqb}
@@ -15,12 +15,11 @@ use Rattle.life_cycle.specs.declared.LifeCycle.the-variants.{Valid, Invalid}
 use Rattle.life_cycle.specs.Words.{decoded}
 use Rattle.model.specs.declared.Reason.{Reason}
 use Rattle.model.specs.declared.Reason.the-variants as reason
-use Rattle.model.specs.declared.Phase.{Phase}
 use Rattle.model.specs.declared.Phase.the-variants.{Ready, Dead}
 use Rattle.model.specs.declared.Session.{Session}
 use Rattle.model.specs.declared.Answer.{Answer}
 use Rattle.model.specs.declared.Answer.the-variants.{Done, DigestFailed, LifeCycleFailed}
-use Rattle.model.specs.Lent.{Lent, Machine, Primitives, keyOf}
+use Rattle.model.specs.Lent.{Lent, Primitives}
 use Rattle.model.specs.Commands.{storedDigest, computedDigest, unscrambled, counterAt, stateAt}
 
 -- one entry for each partition that has a digest, and one for each that has a read lock

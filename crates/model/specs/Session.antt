@@ -1,7 +1,7 @@
 -- The session record: "phase, sensed digests, two read locks, state number, stroke count".
 use Prim.Native.Nat.{ℕ}
 use mathlib.Core.Bool.{Bool, true, false, not}
-use mathlib.Core.List.{List, [], _∷_}
+use mathlib.Core.List.{[], _∷_}
 use lib.Dec.{eqb}
 use lib.ListN.{getD, set}
 use Rattle.model.specs.declared.Phase.{Phase}

@@ -10,7 +10,7 @@ use Rattle.model.specs.declared.Answer.{Answer}
 use Rattle.model.specs.declared.Answer.the-variants.{WrongLength, InvalidConstants}
 use Rattle.model.specs.declared.Command.{Command}
 use Rattle.model.specs.declared.Command.the-variants.{Read, Write, FrontRead, Digest, ReadLock, Transition, PowerUp}
-use Rattle.model.specs.Lent.{Lent, Machine, Primitives, rightLengths}
+use Rattle.model.specs.Lent.{Machine, Primitives, rightLengths}
 use Rattle.model.specs.Acts.{Performed, perform, turned}
 use Rattle.model.specs.Commands.{readyAct}
 use Rattle.model.specs.PowerUp.{verdictOf, waking, wokenCopy, wokenSession, wokenAnswer}

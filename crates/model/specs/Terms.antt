@@ -1,13 +1,12 @@
 -- The terms in which the theorems over lists of commands are stated (document 01, 'Where the promises have to bite').
-use Prim.Native.Nat.{ℕ, _+_, _*_, _/_, _^_, _≤_, _<_}
+use Prim.Native.Nat.{ℕ, _+_, _*_, _^_, _≤_, _<_}
 use mathlib.Core.Path.{_≡_}
-use mathlib.Core.Bool.{Bool, true, false, _&&_}
+use mathlib.Core.Bool.{true, false, _&&_}
 use mathlib.Core.List.{List, [], _∷_}
 use lib.ListN.{length, getD}
 use Rattle.words.specs.declared.Programmed.the-variants as programmed
 use Rattle.words.specs.Words.{numberOf, wordsOf, partAt}
 use Rattle.words.specs.Programming.{programAnswer}
-use Rattle.partitions.specs.declared.Partition.{Partition}
 use Rattle.partitions.specs.Map.{Map, rightsOf, numberAt, partition, partitionAt, limit, inDigest, firstWord, wordCount}
 use Rattle.life_cycle.specs.Constants.{validConstants}
 use Rattle.model.specs.declared.Answer.{Answer}
@@ -15,9 +14,9 @@ use Rattle.model.specs.declared.Answer.the-variants.{Done}
 use Rattle.model.specs.declared.Command.{Command}
 use Rattle.model.specs.declared.Command.the-variants.{Read, Write, FrontRead, Digest, ReadLock, Transition, PowerUp}
 use Rattle.model.specs.Answers.{codeOf}
-use Rattle.model.specs.Lent.{Lent, Machine, Primitives, rightLengths}
+use Rattle.model.specs.Lent.{Machine, Primitives, rightLengths}
 use Rattle.model.specs.Commands.{scrambled, storedDigest}
-use Rattle.model.specs.Step.{Step, step, after}
+use Rattle.model.specs.Step.{Step, step}
 
 -- lent lengths right, constants valid and words of 16 bits; cells, copy and record are free
 pub record Right (map : Map) (m : Machine) : Type 0 where

@@ -1,5 +1,5 @@
 -- A map is a list of partitions, numbered from 0. Nothing here knows how many there are or where they stand. Addresses are byte addresses.
-use Prim.Native.Nat.{ℕ, zero, suc, _+_, _*_, _/_}
+use Prim.Native.Nat.{ℕ, suc, _*_, _/_}
 use mathlib.Core.Bool.{Bool, true, false, _&&_}
 use mathlib.Core.List.{List, [], _∷_}
 use lib.Dec.{eqb, leb, ltb}

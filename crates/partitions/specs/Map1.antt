@@ -1,6 +1,6 @@
 -- Map 1, row by row: kind, start, digest address, end, granule. LIFE_CYCLE has no digest: its digest address is its end.
 use Prim.Native.Nat.{ℕ}
-use mathlib.Core.List.{List, [], _∷_}
+use mathlib.Core.List.{[], _∷_}
 use Rattle.partitions.specs.declared.Kind.{Kind}
 use Rattle.partitions.specs.declared.Kind.the-variants.{Software, HwCfg, Secret0, Secret1, Secret2, LifeCycle}
 use Rattle.partitions.specs.declared.Partition.{Partition}

@@ -3,7 +3,7 @@ use model::Command;
 ghost use mathlib.Core.Path.{_≡_};
 ghost use Prim.Native.Nat.{_+_, _≤_, _<_};
 ghost use lib.ListN.{length};
-ghost use Rattle.script.specs.Records.{kindOf, unknown, bodyLength, numberAt, commandAt, refusalCode, nextAt, placeAfter};
+ghost use Rattle.script.specs.Records.{kindOf, bodyLength, numberAt, commandAt, refusalCode, nextAt, placeAfter};
 ghost use Rattle.script.specs.Reader.{newReader, readerNext, advancedReader};
 ghost use Rattle.script.specs.Lines.{digitByte, digits, lineOf, decimal, endLineOf};
 

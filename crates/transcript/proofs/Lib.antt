@@ -2,3 +2,4 @@ pub mod Files
 pub mod Turns
 pub mod Transcript
 pub mod Counting
+pub mod WrongLengths

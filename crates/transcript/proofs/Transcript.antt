@@ -1,8 +1,8 @@
 -- Turns one after the other print the transcript. The idea: a turn prints the first line of `linesFrom`; and since a record's next place is
 -- above its place and at most the script's length, no budget above the length is used up.
 use Prim.Native.Nat.{ℕ, zero, suc, _+_, _≤_, _<_}
-use mathlib.Core.Path.{_≡_, refl, sym, ap, ap₂, _∙_}
-use mathlib.Core.List.{List, [], _∷_, _++_, append-assoc, append-nil}
+use mathlib.Core.Path.{_≡_, refl, sym, ap, _∙_}
+use mathlib.Core.List.{List, [], _++_, append-assoc}
 use native.Mathlib.Omega.{arith}
 use lib.ListN.{length}
 use Rattle.model.specs.Answers.{codeOf, valueOf}
@@ -13,7 +13,7 @@ use Rattle.script.specs.declared.Reading.the-variants.{Record, End, Refused}
 use Rattle.script.specs.Records.{kindOf, refusalCode, nextAt}
 use Rattle.script.specs.Lines.{lineOf, endLine}
 use Rattle.script.proofs.Records.{is-read}
-use Rattle.transcript.specs.Transcript.{Line, refusedKind, linesFrom, chipOf, linesOf, printed, transcript}
+use Rattle.transcript.specs.Transcript.{refusedKind, linesFrom, chipOf, linesOf, printed, transcript}
 use Rattle.transcript.specs.Turns.{turnBy, turnOf, afterTurn, turnsFrom}
 
 module _ (s : List ℕ) where

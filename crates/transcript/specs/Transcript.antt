@@ -6,7 +6,6 @@ use Rattle.model.specs.Answers.{codeOf, valueOf}
 use Rattle.model.specs.Session.{freshSession}
 use Rattle.model.specs.Lent.{Machine}
 use Rattle.chip.specs.Chip.{machineOf, resultFor}
-use Rattle.script.specs.declared.Reading.{Reading}
 use Rattle.script.specs.declared.Reading.the-variants.{Record, End, Refused}
 use Rattle.script.specs.declared.Refusal.{Refusal}
 use Rattle.script.specs.declared.Refusal.the-variants.{UnknownKind, CutShort, TooLong}

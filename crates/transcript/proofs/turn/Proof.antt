@@ -1,9 +1,7 @@
 -- No record: the reading decides. A record: what `execute` made, with the line of its answer.
-use mathlib.Core.Path.{_≡_, sym, ap, _∙_}
-use Rattle.script.specs.declared.Reading.{Reading}
-use Rattle.model.specs.Lent.{Machine}
+use mathlib.Core.Path.{sym, _∙_}
 use Rattle.chip.specs.Chip.{machineOf, resultOf}
-use Rattle.transcript.specs.Turns.{turnBy, turnOf}
+use Rattle.transcript.specs.Turns.{turnOf}
 use Rattle.transcript.proofs.Turns.{turn-stopped, turn-goes}
 use borrow.Author.Needs.{needs}
 use Rattle.transcript.proofs.turn.Statement.{statement}
