@@ -1,4 +1,201 @@
-// Rehearses standard input over the image and the constants of its folder. Here: document 01's example.
+// The bench program: it reads the script and the two files, and writes the lines that `transcript` and `script` make.
+use libc::STDIN_FILENO;
+use libc::STDOUT_FILENO;
+use model::Session;
+use transcript::Course;
+ghost use mathlib.Core.Path.{_≡_};
+ghost use Prim.Native.Nat.{_+_, _≤_};
+ghost use lib.ListN.{length, take};
+ghost use Rattle.io.specs.Counts.{Counts};
+
+// More than there are records in the bytes of `script_buffer`.
+const MOST_TURNS: u32 = 65538;
+
+// Where a rehearsal stands, and how many bytes of lines wait to be written.
+struct Progress {
+    session: Session,
+    place: usize,
+    used: usize,
+    going: bool,
+}
+
+// A byte more than the longest script has: one that fills it is too long, whatever follows.
+fn script_buffer() -> [u8; 65537]
+    ensures { λ r. ⌜ 65537 ≡ length r ⌝ }
+{
+    [0; 65537]
+}
+
+// A word more than the image has.
+fn file_buffer() -> [u8; 898]
+    ensures { λ r. ⌜ 898 ≡ length r ⌝ }
+{
+    [0; 898]
+}
+
+fn cells_buffer() -> [u16; 449]
+    ensures { λ r. ⌜ 449 ≡ length r ⌝ }
+{
+    [0; 449]
+}
+
+fn constants_buffer() -> [u16; 133]
+    ensures { λ r. ⌜ 133 ≡ length r ⌝ }
+{
+    [0; 133]
+}
+
+// Room for 200 lines.
+fn lines_buffer() -> [u8; 4600]
+    ensures { λ r. ⌜ 4600 ≡ length r ⌝ }
+{
+    [0; 4600]
+}
+
+// Reads the start of a file; a missing one counts as empty.
+fn read_file(path: &[u8], bytes: &mut [u8]) -> usize
+    ensures { λ r. ⌜ Counts r (now (bytes .exit)) ⌝ }
+{
+    let file = os::open_read(path);
+    if file < 0 {
+        return 0;
+    }
+    let n = io::read_full(file, bytes);
+    libc::close(file);
+    n
+}
+
+// Fills words from a file, and says how many it has. A file with more words than there is room for is too long in any case.
+fn read_words(path: &[u8], words: &mut [u16]) -> usize
+    ensures { λ r. ⌜ (r ≤ length (now (words .exit))) × (r ≡ length (take r (now (words .exit)))) ⌝ }
+{
+    let mut bytes = file_buffer();
+    let n = read_file(path, &mut bytes);
+    transcript::file_words(&bytes[..n], words)
+}
+
+// Writes the lines that wait.
+fn write_out(out: &[u8], used: usize)
+    requires { ⌜ used ≤ length (now out) ⌝ }
+{
+    io::write_all(STDOUT_FILENO, &out[..used]);
+}
+
+fn store(out: &mut [u8], at: usize, line: &[u8; 23])
+    requires { ⌜ at + 23 ≤ length (now out) ⌝ }
+{
+    for i in 0..23 {
+        out[at + i] = line[i];
+    }
+}
+
+// Adds a line to those that wait, which are written first where there is no room for it.
+fn gather(out: &mut [u8], used: usize, line: &[u8; 23]) -> usize
+    requires { ⌜ (used ≤ length (now out)) × (23 ≤ length (now out)) ⌝ }
+    ensures { λ r. ⌜ r ≤ length (now (out .entry)) ⌝ }
+{
+    if 23 <= out.len() - used {
+        store(out, used, line);
+        return used + 23;
+    }
+    write_out(&out[..], used);
+    store(out, 0, line);
+    23
+}
+
+fn goes_on(course: Course) -> bool {
+    match course {
+        Course::Goes => true,
+        Course::Stops => false,
+        Course::Ends => false,
+    }
+}
+
+// Takes a turn, and gathers its line where it has one.
+fn take_turn(
+    script: &[u8],
+    cells: &mut [u16],
+    copy: &mut [u16],
+    constants: &[u16],
+    out: &mut [u8],
+    at: Progress,
+) -> Progress
+    requires { ⌜ (at .used ≤ length (now out)) × (23 ≤ length (now out)) ⌝ }
+    ensures { λ r. ⌜ r .used ≤ length (now (out .entry)) ⌝ }
+{
+    let t = transcript::turn(script, at.place, cells, copy, constants, at.session);
+    let course = t.course;
+    let session = t.session;
+    if let Course::Ends = course {
+        return Progress {
+            session,
+            place: t.place,
+            used: at.used,
+            going: false,
+        };
+    }
+    let line = t.line;
+    let used = gather(out, at.used, &line);
+    Progress {
+        session,
+        place: t.place,
+        used,
+        going: goes_on(course),
+    }
+}
+
+// Takes turns until one is the last.
+fn take_turns(
+    script: &[u8],
+    cells: &mut [u16],
+    copy: &mut [u16],
+    constants: &[u16],
+    out: &mut [u8],
+) -> Progress
+    requires { ⌜ 23 ≤ length (now out) ⌝ }
+    ensures { λ r. ⌜ r .used ≤ length (now (out .entry)) ⌝ }
+{
+    let mut at = Progress {
+        session: Session::fresh(),
+        place: 0,
+        used: 0,
+        going: true,
+    };
+    let mut left = MOST_TURNS;
+    while left > 0 && at.going {
+        at = take_turn(script, cells, copy, constants, out, at);
+        left -= 1;
+    }
+    at
+}
+
+fn write_end(count: u64) {
+    let end = script::end_line(count);
+    let bytes = end.bytes;
+    let len = end.len;
+    io::write_all(STDOUT_FILENO, &bytes[..len]);
+}
+
+fn rehearse(script: &[u8], cells: &mut [u16], copy: &mut [u16], constants: &[u16]) {
+    let mut out = lines_buffer();
+    let at = take_turns(script, cells, copy, constants, &mut out);
+    write_out(&out, at.used);
+    write_end(transcript::line_count(script));
+}
+
+// Rehearses standard input over `image.bin` and `constants.bin`, from a fresh session record and a zero copy.
 fn main() {
-    rehearsal::run();
+    let mut script = script_buffer();
+    let n = io::read_full(STDIN_FILENO, &mut script);
+    let mut cells = cells_buffer();
+    let cell_count = read_words(b"image.bin", &mut cells);
+    let mut constants = constants_buffer();
+    let constant_count = read_words(b"constants.bin", &mut constants);
+    let mut copy = [0u16; 448];
+    rehearse(
+        &script[..n],
+        &mut cells[..cell_count],
+        &mut copy,
+        &constants[..constant_count],
+    );
 }

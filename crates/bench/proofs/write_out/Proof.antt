@@ -2,8 +2,8 @@
 use mathlib.Core.Path.{sym}
 use lib.Seq.{length-take-le}
 use borrow.Author.Needs.{needs}
-use Rattle.rehearsal.proofs.write_out.Statement.{statement}
-use Rattle.rehearsal.proofs.write_out.Tie as tie
+use Rattle.bench.proofs.write_out.Statement.{statement}
+use Rattle.bench.proofs.write_out.Tie as tie
 
 slice-aggregate-write-all : tie.Need-slice-aggregate-write-all
 slice-aggregate-write-all c = let s = c .before .before in sym (length-take-le (s .args .used) (s .args .out .now) (search needs))

@@ -3,8 +3,8 @@ use mathlib.Core.Path.{_≡_}
 use Prim.Native.Nat.{_≤_, _-_}
 use lib.ListN.{length}
 use borrow.Author.Needs.{needs}
-use Rattle.rehearsal.proofs.store.Statement.{statement}
-use Rattle.rehearsal.proofs.store.Tie as tie
+use Rattle.bench.proofs.store.Statement.{statement}
+use Rattle.bench.proofs.store.Tie as tie
 
 abbrev Inv-loop : tie.InvT-loop
 Inv-loop out₀ at line i₀ out i = (i ≤ 23) × (length out ≡ length out₀)

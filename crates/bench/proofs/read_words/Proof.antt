@@ -1,8 +1,8 @@
 -- The file's words stand at the start.
-use Rattle.rehearsal.proofs.Counting.{words-counted}
+use Rattle.bench.proofs.Counting.{words-counted}
 use borrow.Author.Needs.{needs}
-use Rattle.rehearsal.proofs.read_words.Statement.{statement}
-use Rattle.rehearsal.proofs.read_words.Tie as tie
+use Rattle.bench.proofs.read_words.Statement.{statement}
+use Rattle.bench.proofs.read_words.Tie as tie
 
 file-buffer-requires : tie.Need-file-buffer-requires
 file-buffer-requires c κs = search needs

@@ -3,8 +3,8 @@ use Prim.Native.Nat.{_≤_}
 use mathlib.Core.Path.{_≡_}
 use lib.ListN.{length}
 use borrow.Author.Needs.{needs}
-use Rattle.rehearsal.proofs.take_turns.Statement.{statement}
-use Rattle.rehearsal.proofs.take_turns.Tie as tie
+use Rattle.bench.proofs.take_turns.Statement.{statement}
+use Rattle.bench.proofs.take_turns.Tie as tie
 
 abbrev Inv-loop : tie.InvT-loop
 Inv-loop script cells₀ copy₀ constants out₀ at₀ left₀ cells copy out at left =

@@ -1,8 +1,8 @@
 -- The end line stands at the start of its bytes.
-use Rattle.rehearsal.proofs.Counting.{Prefix, end-counted}
+use Rattle.bench.proofs.Counting.{Prefix, end-counted}
 use borrow.Author.Needs.{needs}
-use Rattle.rehearsal.proofs.write_end.Statement.{statement}
-use Rattle.rehearsal.proofs.write_end.Tie as tie
+use Rattle.bench.proofs.write_end.Statement.{statement}
+use Rattle.bench.proofs.write_end.Tie as tie
 
 end-line-requires : tie.Need-end-line-requires
 end-line-requires c κs = search needs

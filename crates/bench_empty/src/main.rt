@@ -1,4 +1,0 @@
-// The bench program on an empty script.
-fn main() {
-    rehearsal::run();
-}

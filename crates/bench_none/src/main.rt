@@ -1,4 +1,0 @@
-// The bench program without an image and constants: each line says 0x10.
-fn main() {
-    rehearsal::run();
-}
