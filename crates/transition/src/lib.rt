@@ -41,6 +41,7 @@ enum Permit {
     Refused(Answer),
 }
 
+// The record in another phase.
 fn in_phase(session: Session, phase: Phase) -> Session
     ensures { λ r. ⌜ r ≡ inPhase phase session ⌝ }
 {
@@ -55,7 +56,7 @@ fn in_phase(session: Session, phase: Phase) -> Session
     }
 }
 
-// An answer that ends the session.
+// An answer that leaves the phase Inert.
 fn inert(session: Session, answer: Answer) -> Outcome
     ensures { λ r. ⌜ r ≡ inert session answer ⌝ }
 {
@@ -65,7 +66,7 @@ fn inert(session: Session, answer: Answer) -> Outcome
     }
 }
 
-// A cell refused.
+// A cell refused: the phase is dead.
 fn dead(session: Session, cell: usize) -> Outcome
     ensures { λ r. ⌜ r ≡ dead session cell ⌝ }
 {
@@ -123,6 +124,7 @@ fn place_of(token: Token) -> usize
     }
 }
 
+// The test behind 0x23.
 fn compared(token: Halves, high: u64, low: u64) -> Permit
     ensures { λ r. ⌜ r ≡ comparedAs (eqb (token .high * 2 ^ 64 + token .low) (high * 2 ^ 64 + low)) ⌝ }
 {
@@ -165,7 +167,7 @@ fn permitted(
     }
 }
 
-// The token comes as its high and its low 64 bits, hashed.
+// Moves the life cycle to a target state. The hashed token comes as its high and its low 64 bits.
 pub fn transition(
     cells: &mut [u16],
     copy: &[u16],
