@@ -74,9 +74,7 @@ module _ (m : Machine) (a n : ℕ) (p : Partition) (number : n ≡ numberAt map1
       (program (firstWord p a) (wordsOf (wordCount p a) (scrambled primitives map1 (m .lent .constants) p value)) stay (say (Done 0) stay))
   unfolding commandAct writeAct mayWrite guarded
   write-act value =
-      let q = partitionAt map1 a in
-      let rights = rightsOf (q .kind) in
-      rw (number, found, three (rights .direct) (rights .hardware && inDigest q a) (sensedLocked (m .session) (numberAt map1 a)))
+      rw (number, found, three (rightsOf (partitionAt map1 a .kind) .direct) (rightsOf (partitionAt map1 a .kind) .hardware && inDigest (partitionAt map1 a) a) (sensedLocked (m .session) (numberAt map1 a)))
 
   pub read-act : commandAct primitives map1 m (Read a)
       ≡ guarded a (mayRead (m .session) n p a) (say (Done (readValue (m .lent .cells) (m .lent .constants) p a)) stay)

@@ -39,10 +39,8 @@ pub granule-slice : (ws : List ℕ) (p : Partition) (a at n : ℕ) → at ≡ fi
 unfolding granule
 granule-slice ws p a at n e f l u =
     let s : at + n - at ≡ n = omega arith in
-    let i = firstWord p a in
-    let j = wordCount p a in
-    let all = take-all 4 (take j (drop i ws)) (omega (arith, length-take-le j (drop i ws) (rw length-drop (omega arith)))) in
-    rw (s, e, f) (ap numberOf (all ∙ sym (part-slice ws i j l)))
+    rw (s, e, f)
+    (ap numberOf (take-all 4 _ (omega (arith, length-take-le (wordCount p a) (drop (firstWord p a) ws) (rw length-drop (omega arith)))) ∙ sym (part-slice ws (firstWord p a) (wordCount p a) l)))
 
 module _ (cells copy : ℕ) (k : List ℕ) (phase : Phase) (a : ℕ) where
   -- ---- what the code finds

@@ -43,9 +43,8 @@ pub programs : (m : Machine) (at : ℕ) (ws : List ℕ) (value : ℕ)
     ≡ resultOf (programCells (m .lent .cells) at ws) (m .lent .copy) (m .lent .constants)
     (record { session = m .session; answer = programmedAnswer (programAnswer (m .lent .cells) at ws) value })
 programs m at ws value =
-    let after = machineOf (programCells (m .lent .cells) at ws) (m .lent .copy) (m .lent .constants) (m .session) in
     by-answer (programAnswer (m .lent .cells) at ws)
-    (λ e. program-done m at ws stay _ e ∙ said-only after (Done value) ∙ rw e)
+    (λ e. program-done m at ws stay _ e ∙ said-only (machineOf (programCells (m .lent .cells) at ws) (m .lent .copy) (m .lent .constants) (m .session)) (Done value) ∙ rw e)
     (λ i e. program-refused m at ws stay _ i e ∙ said-only m _ ∙ rw (e, stored-refused (m .lent .cells) ws at i e))
 
 -- ---- a command on an address
@@ -54,8 +53,7 @@ module _ (x : Command) (m : Machine) (a : ℕ) (acts : Acting x) (may : Bool) (g
   pub stopped : (b : Answer) → reached m a ≡ Refused b → record { machine = m; answer = b } ≡ resultFor x m
   stopped b r =
       by-place _ _ _ (m .session .phase) a (λ d e. ap result (sym (same (sym (not-admitted _ _ _ _ a d e) ∙ r))) ∙ refused x m acts d e)
-      (λ e h. ap result (sym (same (sym (past-map _ _ _ _ a e h) ∙ r)))
-      ∙ sym (acted x m acts e ∙ ap (λ (t : Act). comesTo t m) (decides ∙ past-guard a may go h) ∙ said-only m Denied))
+      (λ e h. ap result (sym (same (sym (past-map _ _ _ _ a e h) ∙ r))) ∙ sym (acted x m acts e ∙ ap (λ (t : Act). comesTo t m) (decides ∙ past-guard a may go h) ∙ said-only m Denied))
       (λ e h. absurd (not-at (sym r ∙ in-map _ _ _ _ a e h)))
     where
       result : Answer → Result

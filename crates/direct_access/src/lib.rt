@@ -37,7 +37,6 @@ fn reach(cells: usize, copy: usize, constants: &[u16], session: Session, address
     }
 }
 
-// The tests of a write: not LIFE_CYCLE, not a hardware digest, not sensed locked.
 fn may_write(session: Session, number: usize, partition: Partition, address: usize) -> bool
     ensures { λ r. ⌜ r ≡ mayWrite session number partition address ⌝ }
 {
@@ -48,7 +47,6 @@ fn may_write(session: Session, number: usize, partition: Partition, address: usi
     rights.direct & !in_digest & !locked
 }
 
-// The tests of a read: not LIFE_CYCLE; of data also no read lock, and of a secret no sensed lock.
 fn may_read(session: Session, number: usize, partition: Partition, address: usize) -> bool
     ensures { λ r. ⌜ r ≡ mayRead session number partition address ⌝ }
 {
@@ -59,7 +57,6 @@ fn may_read(session: Session, number: usize, partition: Partition, address: usiz
     rights.direct & ((partition.digest <= address) | data)
 }
 
-// The tests of a front read: data of HW_CFG.
 fn may_front_read(partition: Partition, address: usize) -> bool
     ensures { λ r. ⌜ r ≡ mayFrontRead partition address ⌝ }
 {
@@ -68,7 +65,6 @@ fn may_front_read(partition: Partition, address: usize) -> bool
     rights.front & !(partition.digest <= address)
 }
 
-// The tests of a digest: the start of a partition with a hardware digest, not sensed locked.
 fn may_digest(session: Session, number: usize, partition: Partition, address: usize) -> bool
     ensures { λ r. ⌜ r ≡ mayDigest session number partition address ⌝ }
 {
@@ -101,7 +97,6 @@ fn read_value(cells: &[u16], constants: &[u16], partition: Partition, address: u
     chip::unscrambled(constants, partition, stored)
 }
 
-// A value where the words were programmed, 4 where a cell refused.
 fn answer_of(programmed: Programmed, value: u64) -> Answer
     ensures { λ r. ⌜ r ≡ programmedAnswer programmed value ⌝ }
 {
@@ -111,7 +106,6 @@ fn answer_of(programmed: Programmed, value: u64) -> Answer
     }
 }
 
-// Answers the granule of an address in the cells.
 pub fn read(
     cells: &[u16],
     copy: &[u16],
@@ -140,7 +134,6 @@ pub fn read(
     }
 }
 
-// Programs the granule of an address, one of four bytes with the low half of the value.
 pub fn write(
     cells: &mut [u16],
     copy: &[u16],
@@ -173,7 +166,6 @@ pub fn write(
     }
 }
 
-// Answers the granule of an address in the sensed copy.
 pub fn front_read(
     cells: &[u16],
     copy: &[u16],
@@ -202,7 +194,6 @@ pub fn front_read(
     }
 }
 
-// Computes the digest over the stored data words, programs it and answers it. It locks from the next power-up on.
 pub fn digest(
     cells: &mut [u16],
     copy: &[u16],
@@ -235,7 +226,6 @@ pub fn digest(
     }
 }
 
-// Locks reads of a partition until the next power-up.
 pub fn read_lock(
     cells: &[u16],
     copy: &[u16],

@@ -62,8 +62,7 @@ module _ (copy k : List ℕ) (s : Session) where
   -- the state words are programmed
   moving : (cells : List ℕ) (m : Machine) (target : ℕ) → m .lent .constants ≡ k
       → comesTo (moveAct primitives map1 m target) (machineOf cells copy k s)
-      ≡ resultOf (programCells cells (stateAt primitives map1) (stateWords k target)) copy k
-      (movedAs s (programAnswer cells (stateAt primitives map1) (stateWords k target)))
+      ≡ resultOf (programCells cells (stateAt primitives map1) (stateWords k target)) copy k (movedAs s (programAnswer cells (stateAt primitives map1) (stateWords k target)))
   unfolding moveAct
   moving cells m target c =
       let at = stateAt primitives map1 in
@@ -104,16 +103,14 @@ module _ (cells copy k : List ℕ) (s : Session) (target high low : ℕ) where
     pub strokes-used : target ≤ 20 → 24 ≤ s .count → (o : Outcome) → o ≡ inert s StrokesUsed → resultOf cells copy k o ≡ resultFor x m
     unfolding transitionAct
     strokes-used h l o f =
-        let used = if-false _ _ (ap not (q .good-record)) ∙ if-false _ _ (ap not (le-leb _ _ h)) ∙ if-true _ _ (ap not (le-ltb _ _ l)) in
-        rw f (sym (decided (q .admitted-there) (say StrokesUsed halt) used ∙ halted copy k s cells StrokesUsed))
+        rw f (sym (decided (q .admitted-there) (say StrokesUsed halt) (if-false _ _ (ap not (q .good-record)) ∙ if-false _ _ (ap not (le-leb _ _ h)) ∙ if-true _ _ (ap not (le-ltb _ _ l))) ∙ halted copy k s cells StrokesUsed))
 
   module _ (q : Spendable m target) where
     spending : resultFor x m ≡ comesTo (program (counterAt primitives map1) stroke die (entryAct primitives map1 m (transition (s .state) target) target given)) m
     unfolding transitionAct
     spending =
         let r = q .known in
-        decided (r .admitted-there) _
-        (if-false _ _ (ap not (r .good-record)) ∙ if-false _ _ (ap not (le-leb _ _ (q .target-known))) ∙ if-false _ _ (ap not (lt-ltb _ _ (q .stroke-left))))
+        decided (r .admitted-there) _ (if-false _ _ (ap not (r .good-record)) ∙ if-false _ _ (ap not (le-leb _ _ (q .target-known))) ∙ if-false _ _ (ap not (lt-ltb _ _ (q .stroke-left))))
 
     -- the stroke is programmed, or a cell refuses
     module _ (after : List ℕ) (c : after ≡ programCells cells (counterAt primitives map1) stroke) where

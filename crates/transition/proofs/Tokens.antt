@@ -20,7 +20,6 @@ use Rattle.model.specs.Session.{sensedAt, sensedLocked}
 use Rattle.model.specs.Lent.{Machine}
 use Rattle.model.specs.Acts.{halt, Act, say, compare}
 use Rattle.model.specs.Commands.{tokenKind, tokenSame, moveAct, lockedTokenAct, tokenAct, entryAct}
-use Rattle.model.specs.Step.{Result}
 use Rattle.chip.specs.Chip.{primitives}
 use Rattle.chip.proofs.Acting.{comesTo, compare-same, compare-other}
 use Rattle.transition.specs.declared.Permit.{Permit}
@@ -71,6 +70,7 @@ abbrev pub permittedAct : Permit → Act → Act
 permittedAct Granted go = go
 permittedAct (Refused b) go = say b halt
 
+-- the machine m decides, and the act is performed on the machine n
 module _ (n : Machine) (go : Act) where
   comparing : (test : List ℕ → Bool) → comesTo (compare test go (say TokenDiffers halt)) n ≡ comesTo (permittedAct (comparedAs (test (n .lent .copy))) go) n
   unfolding comparedAs
@@ -79,7 +79,6 @@ module _ (n : Machine) (go : Act) where
       (λ t. compare-same n test go _ t ∙ ap (λ (p : Permit). comesTo (permittedAct p go) n) (sym (if-true Granted (Refused TokenDiffers) t)))
       (λ t. compare-other n test go _ t ∙ ap (λ (p : Permit). comesTo (permittedAct p go) n) (sym (if-false Granted (Refused TokenDiffers) t)))
 
--- the machine m decides, and the act is performed on the machine n
 module _ (m n : Machine) (target given : ℕ) where
   abbrev move : Act
   move = moveAct primitives map1 m target
@@ -89,15 +88,11 @@ module _ (m n : Machine) (target given : ℕ) where
   unfolding lockedTokenAct lockedPermit
   locking token =
       by-cases (sensedLocked (m .session) (numberOfKind map1 (tokenKind token)))
-      (λ t. ap (λ (a : Act). comesTo a n) (if-false _ _ (ap not t)) ∙ comparing n move _ ∙ ap permitted (sym (if-false (Refused TokenNotLocked) _ (ap not t))))
-      (λ t. ap (λ (a : Act). comesTo a n) (if-true _ _ (ap not t)) ∙ ap permitted (sym (if-true (Refused TokenNotLocked) _ (ap not t))))
-    where
-      permitted : Permit → Result
-      permitted p = comesTo (permittedAct p move) n
+      (λ t. ap (λ (a : Act). comesTo a n) (if-false _ _ (ap not t)) ∙ comparing n move _ ∙ ap (λ (p : Permit). comesTo (permittedAct p move) n) (sym (if-false (Refused TokenNotLocked) _ (ap not t))))
+      (λ t. ap (λ (a : Act). comesTo a n) (if-true _ _ (ap not t)) ∙ ap (λ (p : Permit). comesTo (permittedAct p move) n) (sym (if-true (Refused TokenNotLocked) _ (ap not t))))
 
   asking : (token : Token)
-      → comesTo (tokenAct primitives map1 m token target given) n
-      ≡ comesTo (permittedAct (tokenPermit (m .session) (n .lent .copy) (m .lent .constants) token given) move) n
+      → comesTo (tokenAct primitives map1 m token target given) n ≡ comesTo (permittedAct (tokenPermit (m .session) (n .lent .copy) (m .lent .constants) token given) move) n
   unfolding tokenAct tokenPermit
   asking Nothing = refl
   asking RawUnlock = comparing n move _

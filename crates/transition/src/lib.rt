@@ -41,7 +41,6 @@ enum Permit {
     Refused(Answer),
 }
 
-// The record in another phase.
 fn in_phase(session: Session, phase: Phase) -> Session
     ensures { λ r. ⌜ r ≡ inPhase phase session ⌝ }
 {
@@ -56,7 +55,7 @@ fn in_phase(session: Session, phase: Phase) -> Session
     }
 }
 
-// An answer that leaves the phase Inert.
+// An answer that ends the session.
 fn inert(session: Session, answer: Answer) -> Outcome
     ensures { λ r. ⌜ r ≡ inert session answer ⌝ }
 {
@@ -66,7 +65,7 @@ fn inert(session: Session, answer: Answer) -> Outcome
     }
 }
 
-// A cell refused: the phase is dead.
+// A cell refused.
 fn dead(session: Session, cell: usize) -> Outcome
     ensures { λ r. ⌜ r ≡ dead session cell ⌝ }
 {
@@ -124,7 +123,6 @@ fn place_of(token: Token) -> usize
     }
 }
 
-// The test behind 0x23.
 fn compared(token: Halves, high: u64, low: u64) -> Permit
     ensures { λ r. ⌜ r ≡ comparedAs (eqb (token .high * 2 ^ 64 + token .low) (high * 2 ^ 64 + low)) ⌝ }
 {
@@ -167,7 +165,7 @@ fn permitted(
     }
 }
 
-// Moves the life cycle to a target state. The hashed token comes as its high and its low 64 bits.
+// The token comes as its high and its low 64 bits, hashed.
 pub fn transition(
     cells: &mut [u16],
     copy: &[u16],

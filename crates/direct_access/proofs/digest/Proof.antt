@@ -34,8 +34,7 @@ start t = t .before .before .before .before
 abbrev lent : tie.Start → Machine
 lent s = machineOf (s .args .cells .now) (s .args .copy .now) (s .args .constants .now) (s .args .session)
 
-at-place : (t : tie.After-number) → let s = start (t .before .before) in
-    reached (lent s) (s .args .address) ≡ At (t .number .given .0 .0) (t .number .given .0 .1 .0)
+at-place : (t : tie.After-number) → let s = start (t .before .before) in reached (lent s) (s .args .address) ≡ At (t .number .given .0 .0) (t .number .given .0 .1 .0)
 at-place t = sym (t .before .before .reach .ensures) ∙ t .number .given .1
 
 returns : tie.Need-returns

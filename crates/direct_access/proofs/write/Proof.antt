@@ -41,8 +41,7 @@ start t = t .before .before .before .before
 abbrev lent : tie.Start → Machine
 lent s = machineOf (s .args .cells .now) (s .args .copy .now) (s .args .constants .now) (s .args .session)
 
-at-place : (t : tie.After-number) → let s = start (t .before .before) in
-    reached (lent s) (s .args .address) ≡ At (t .number .given .0 .0) (t .number .given .0 .1 .0)
+at-place : (t : tie.After-number) → let s = start (t .before .before) in reached (lent s) (s .args .address) ≡ At (t .number .given .0 .0) (t .number .given .0 .1 .0)
 at-place t = sym (t .before .before .reach .ensures) ∙ t .number .given .1
 
 returns : tie.Need-returns
@@ -65,12 +64,8 @@ few t =
     let h = held _ _ _ _ _ _ _ (at-place (t .before .before .before .before)) in
     omega (arith, h .few, t .granule-at .ensures .1)
 
-lent-words : (t : tie.After-split)
-    → let g = t .before .before in
-    let n = g .before .before .before .before in
-    let p = n .number .given .0 .1 .0 in
-    let s = start (n .before .before) in
-    take (g .granule-at .result .words) (t .split .result) ≡ wordsOf (wordCount p (s .args .address)) (scrambled primitives map1 (s .args .constants .now) p (s .args .value))
+lent-words : (t : tie.After-split) → let g = t .before .before in let n = g .before .before .before .before in let s = start (n .before .before) in
+    take (g .granule-at .result .words) (t .split .result) ≡ wordsOf (wordCount (n .number .given .0 .1 .0) (s .args .address)) (scrambled primitives map1 (s .args .constants .now) (n .number .given .0 .1 .0) (s .args .value))
 lent-words t =
     let g = t .before .before in
     let h = held _ _ _ _ _ _ _ (at-place (g .before .before .before .before)) in
