@@ -190,9 +190,13 @@ fn answer_next() -> bool {
 }
 
 // Nothing says that the input ends, so the turns are counted down, from a number that no run uses up.
-fn main() {
+fn answer_all() {
     let mut turns = u64::MAX;
     while turns > 0 && answer_next() {
         turns -= 1;
     }
+}
+
+fn main() {
+    answer_all();
 }
