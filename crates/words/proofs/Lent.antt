@@ -4,11 +4,10 @@ use mathlib.Core.Bool.{Bool, true, false}
 use mathlib.Core.List.{List, [], _∷_, _++_, append-nil, append-assoc}
 use Prim.Native.Nat.{ℕ, suc, _+_, _≤_, _<_}
 use native.Mathlib.Nat.{add-zero, add-suc}
-use native.Mathlib.Numerals.{add-one}
 use native.Mathlib.Omega.{arith}
 use lib.Dec.{ltb}
 use lib.ListN.{length, getD, set, take, drop, length-drop, length-set, take-append-drop, List·getD-eq-default}
-use lib.Seq.{sets, sets-eq, getD-take, getD-drop, drop-drop, drop-length, drop-cons, take-suc, take-all, take-length, append-snoc, set-at, length-take-le}
+use lib.Seq.{sets, sets-eq, getD-take, getD-drop, drop-drop, drop-length, drop-cons, take-all, length-take-le}
 use borrow.Author.Tests.{ltb-true, ltb-false}
 use Rattle.basics.specs.Choice.{if_then_else_}
 use Rattle.basics.proofs.Choice.{by-cases}
@@ -18,7 +17,7 @@ use Rattle.words.specs.Programming.{refuses, programAnswer, programCells
 use Rattle.words.proofs.Parts.{sets-past}
 use Rattle.words.proofs.Programming.{answer-next, answer-stop, blank-passes, by-answer, refused-lowest, stored-done, stored-refused}
 
--- ---- the loop over a part: one word more is tested, one word more is stored
+-- ---- the loop over a part: one word more is tested
 
 pub tested-next : (ss vs : List ℕ) (i : ℕ) → i < length vs → refuses (getD ss i 0) (getD vs i 0) ≡ false
     → programAnswer ss i (drop i vs) ≡ programAnswer ss (suc i) (drop (suc i) vs)
@@ -30,14 +29,6 @@ tested-stop ss vs i h e = rw (drop-cons vs i 0 h) (answer-stop ss (drop (suc i) 
 pub tested-end : (ss vs : List ℕ) → programAnswer ss (length vs) (drop (length vs) vs) ≡ Done
 unfolding programAnswer
 tested-end ss vs = rw (drop-length vs)
-
-pub store-next : (ss vs : List ℕ) (i : ℕ) → i < length ss → i < length vs → set (take i vs ++ drop i ss) i (getD vs i 0) ≡ take (i + 1) vs ++ drop (i + 1) ss
-store-next ss vs i a b =
-    rw (add-one i, take-suc vs i 0 b, append-snoc, drop-cons ss i 0 a)
-    (set-at (take i vs) (getD ss i 0) (drop (suc i) ss) (getD vs i 0) i (length-take-le i vs (omega arith)))
-
-pub store-end : (ss vs : List ℕ) → length ss ≡ length vs → take (length ss) vs ++ drop (length ss) ss ≡ vs
-store-end ss vs e = rw (drop-length ss, e, take-length vs) (append-nil vs)
 
 -- the whole part becomes the value
 pub sets-whole : (ss vs : List ℕ) → length ss ≡ length vs → sets ss 0 vs ≡ vs

@@ -2,7 +2,7 @@
 use mathlib.Core.Path.{_≡_, refl, sym, ap, ap₂, _∙_}
 use mathlib.Core.Bool.{true, false}
 use mathlib.Core.List.{List, [], _∷_}
-use Prim.Native.Nat.{ℕ, zero, suc, _+_, _-_, _≤_, _<_}
+use Prim.Native.Nat.{ℕ, zero, suc, _+_, _*_, _-_, _^_, _≤_, _<_}
 use native.Mathlib.Nat.{add-suc}
 use native.Mathlib.Omega.{arith}
 use lib.ListN.{length, getD, set, take, drop, length-set, length-drop, drop-of-length-le, List·getD-eq-default}
@@ -13,10 +13,23 @@ use Rattle.basics.specs.Range.{listed}
 use Rattle.basics.proofs.Choice.{by-cases}
 use Rattle.basics.proofs.Range.{length-listed}
 use Rattle.words.specs.Words.{numberOf, partAt}
+use Rattle.words.proofs.Words.{Words, number-lt}
 
 pub length-part : (c : List ℕ) (at n : ℕ) → length (partAt c at n) ≡ n
 unfolding partAt
 length-part c at n = length-listed _ at n
+
+pub part-words : {c : List ℕ} → Words c → (at n : ℕ) → Words (partAt c at n)
+unfolding partAt listed
+part-words w at n = record { small = small w at n }
+  where
+    small : {c : List ℕ} → Words c → (at n i : ℕ) → getD (listed (λ j. getD c j 0) at n) i 0 < 65536
+    small w at zero i = omega arith
+    small w at (suc n) zero = w .small at
+    small w at (suc n) (suc i) = small w (suc at) n i
+
+pub part-number-lt : {c : List ℕ} → Words c → (at n : ℕ) → numberOf (partAt c at n) < 65536 ^ n
+part-number-lt {c} w at n = rw length-part at (number-lt (partAt c at n) (part-words w at n))
 
 -- a part depends on its words alone
 pub part-same : (c d : List ℕ) (at n : ℕ) → ((j : ℕ) → at ≤ j → j < at + n → getD c j 0 ≡ getD d j 0) → partAt c at n ≡ partAt d at n
@@ -70,6 +83,15 @@ number-part c at (suc n) = by-cases (ltb at (length c)) (inside (number-part c (
 
     past : ltb at (length c) ≡ false → numberOf (partAt c at (suc n)) ≡ numberOf (take (suc n) (drop at c))
     past t = zeros-past c at (suc n) (ltb-false _ _ t) ∙ sym (number-past c at (suc n) (ltb-false _ _ t))
+
+-- the number of eight words, by its high and its low half
+pub number-halves : (c : List ℕ) (at : ℕ) → numberOf (partAt c (at + 4) 4) * 2 ^ 64 + numberOf (partAt c at 4) ≡ numberOf (partAt c at 8)
+unfolding partAt listed numberOf
+number-halves c at =
+    let e : at + 4 ≡ suc (suc (suc (suc at))) = omega arith in
+    rw e (omega arith)
+
+-- ---- storing a value
 
 pub sets-elsewhere : (vs c : List ℕ) (at j : ℕ) → (at ≤ j → j < at + length vs → ⊥) → getD (sets c at vs) j 0 ≡ getD c j 0
 sets-elsewhere [] c at j h = refl
