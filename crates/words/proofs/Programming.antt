@@ -179,7 +179,10 @@ kept-trans f g = record { bits = λ j i h. le-trans (f .bits j i h) (g .bits j i
 
 kept-set : (c : List ℕ) (at v : ℕ) → refuses (getD c at 0) v ≡ false → Kept c (set c at v)
 unfolding refuses
-kept-set c at v e = record { bits = λ j i h. by-cases (eqb j at) (λ t. rw (eqb-true j at t) (here i h)) (λ t. rw (getD-set-other c at j v 0 (eqb-false j at t)) (le-refl _)) }
+kept-set c at v e =
+    record {
+      bits = λ j i h. by-cases (eqb j at) (λ t. rw (eqb-true j at t) (here i h)) (λ t. rw (getD-set-other c at j v 0 (eqb-false j at t)) (le-refl _));
+    }
   where
     here : (i : ℕ) → i < 16 → bit (getD c at 0) i ≤ bit (getD (set c at v) at 0) i
     here i h =
