@@ -4,6 +4,7 @@ use mathlib.Core.Bool.{Bool, true, false}
 use mathlib.Core.List.{List, _∷_}
 use Prim.Native.Nat.{ℕ, zero, suc, _+_, _≤_, _<_}
 use native.Mathlib.Nat.{add-zero, add-suc, suc-add, zero-add}
+use native.Mathlib.Numerals.{add-one}
 use native.Mathlib.Omega.{arith}
 use lib.Dec.{T, eqb}
 use lib.ListN.{length, getD, set, length-set}
@@ -76,3 +77,26 @@ unfolding listed
 sets-more f zero xs i h known j l = known j (omega arith)
 sets-more f (suc n) xs i h known j l =
     sets-more f n (set xs i (f i)) (suc i) (rw length-set (omega arith)) (set-more f xs i (f i) (omega arith) refl known) j (omega arith)
+
+-- ---- a loop that stores one entry a turn
+
+-- the first i of n entries follow the rule
+pub record Follows (f : ℕ → ℕ) (n : ℕ) (xs : List ℕ) (i : ℕ) : Type 0 where
+  pub within : i ≤ n
+  pub size : length xs ≡ n
+  pub entry : (j : ℕ) → j < i → getD xs j 0 ≡ f j
+
+module _ {f : ℕ → ℕ} {n : ℕ} {xs : List ℕ} where
+  pub follows-none : length xs ≡ n → Follows f n xs 0
+  follows-none e = record { within = omega arith; size = e; entry = λ j h. absurd (omega arith) }
+
+  pub follows-more : {i a : ℕ} → Follows f n xs i → i < n → a ≡ f i → Follows f n (set xs i a) (i + 1)
+  follows-more {i} {a} g h e =
+      record {
+        within = omega arith;
+        size = length-set xs i a ∙ g .size;
+        entry = rw (add-one i) (set-more f xs i a (omega (arith, g .size)) e (g .entry));
+      }
+
+  pub follows-all : {i : ℕ} → Follows f n xs i → n ≤ i → xs ≡ listed f 0 n
+  follows-all g h = is-listed f n xs (g .size) (λ k l. g .entry k (omega arith))
