@@ -3,7 +3,7 @@
 use mathlib.Core.Path.{_≡_, refl, sym, ap, ap₂, subst, _∙_}
 use mathlib.Core.Bool.{Bool, true, false, _&&_}
 use mathlib.Core.List.{List, [], _∷_}
-use Prim.Native.Nat.{ℕ, suc, _+_, _*_, _-_, _/_, _≤_, _<_}
+use Prim.Native.Nat.{ℕ, suc, _+_, _*_, _/_, _≤_, _<_}
 use native.Mathlib.Omega.{arith}
 use lib.Dec.{eqb, ltb}
 use lib.ListN.{length, getD, set, length-set}
@@ -11,7 +11,7 @@ use lib.Seq.{sets, getD-set-same, getD-set-other, set-out}
 use borrow.Author.Tests.{leb-false, eqb-true, eqb-false, ltb-true, ltb-false, not-false}
 use Rattle.basics.specs.Choice.{if_then_else_}
 use Rattle.basics.specs.Range.{listed}
-use Rattle.basics.proofs.Choice.{by-cases, true-not-false, not-passed, if-true, if-false}
+use Rattle.basics.proofs.Choice.{by-cases, true-not-false, not-passed, if-true, if-false, if-same}
 use Rattle.basics.proofs.Range.{listed-at}
 use Rattle.words.specs.declared.Programmed.{Programmed}
 use Rattle.words.specs.declared.Programmed.the-variants as programmed
@@ -19,11 +19,10 @@ use Rattle.words.specs.Words.{numberOf}
 use Rattle.words.specs.Programming.{programAnswer, programCells}
 use Rattle.words.proofs.Parts.{part-same}
 use Rattle.words.proofs.Programming.{answer-same, by-answer, stored-done, stored-refused, program-length}
-use Rattle.partitions.specs.declared.Kind.{Kind}
 use Rattle.partitions.specs.declared.Kind.the-variants as kind
 use Rattle.partitions.specs.declared.Partition.{Partition}
 use Rattle.partitions.specs.Fitness.{fit}
-use Rattle.partitions.proofs.KindRights.{hardware-direct, scrambled-hardware, front-hardware, front-not-scrambled, lockable-not-hardware}
+use Rattle.partitions.proofs.KindRights.{scrambled-direct, front-hardware, front-not-scrambled, lockable-not-hardware}
 use Rattle.partitions.proofs.Map.{inside, partition-fit, partition-word, life-cycle-partition}
 use Rattle.partitions.proofs.Granules.{granule-within, word-inside, word-number, digest-word}
 use Rattle.partitions.specs.Map.{Map, rightsOf, numberAt, partition, partitionAt, limit, inDigest, firstWord, wordCount, numberOfKind}
@@ -106,13 +105,6 @@ perform-twin {P} (programs {at = at} {words = words} inside next) k k′ c d e h
 perform-twin {P} (compares {test = test} same other) k k′ c d e h = λ g.
     let r = if-twin (Twin P) _ _ _ _ (g .0) (perform-twin same k k′ c d e h) (perform-twin other k k′ c d e h) (g .1) in
     record { answer = r .answer; turn = r .turn; cells = r .cells }
-
-if-same {ℓ} : {A : Type ℓ} {b : Bool} {x y x′ y′ : A} → (b ≡ true → x ≡ x′) → (b ≡ false → y ≡ y′) → (if b then x else y) ≡ (if b then x′ else y′)
-if-same {b = b} {x = x} {y = y} {x′ = x′} {y′ = y′} f g =
-    by-cases b (λ t. if-true x y t ∙ f t ∙ sym (if-true x′ y′ t)) (λ t. if-false x y t ∙ g t ∙ sym (if-false x′ y′ t))
-
-scrambled-direct : (k : Kind) → rightsOf k .scrambled ≡ true → rightsOf k .direct ≡ true
-scrambled-direct k e = hardware-direct k (scrambled-hardware k e)
 
 -- ---- what shows, where partitions with H hide their data
 

@@ -1,13 +1,13 @@
 -- What lasts while a chip is Ready. The idea: a command after which Ready lasts is an act whose turn leaves the phase, the sensed digests and
 -- the lengths; so the record still tells what the last power-up found.
-use mathlib.Core.Path.{_≡_, refl, sym, subst, _∙_}
-use mathlib.Core.Bool.{Bool, true, not}
+use mathlib.Core.Path.{_≡_, refl, _∙_}
+use mathlib.Core.Bool.{Bool, true}
 use mathlib.Core.List.{List, [], _∷_}
 use Prim.Native.Nat.{ℕ}
 use native.Mathlib.Omega.{arith}
-use lib.Dec.{T, T-not, eqb}
+use lib.Dec.{T}
 use Rattle.basics.specs.Choice.{if_then_else_}
-use Rattle.basics.proofs.Choice.{if-both}
+use Rattle.basics.proofs.Choice.{unequal, if-both}
 use Rattle.partitions.specs.Fitness.{fit}
 use Rattle.partitions.specs.Map.{Map, partition}
 use mathlib.Core.Option.{Option, none, some}
@@ -49,10 +49,6 @@ calm-phase (lock number) s h = refl
 gives-either : {T : Answer → Turn → Type 0} (b : Bool) {x y : Act} → Gives T x → Gives T y → Gives T (if b then x else y)
 gives-either b f g = gives-if (λ e. f) (λ e. g)
 
--- a code that is not 0x11
-differs : {n : ℕ} → T (not (eqb n 0x11)) → n ≡ 0x11 → ⊥
-differs {n} t e = T-not (eqb n 0x11) t (subst (λ (x : ℕ). T (eqb x 0x11)) (sym e) tt)
-
 -- an answer with which Ready lasts goes with a calm turn
 abbrev Calm : Command → Answer → Turn → Type 0
 Calm x answer t = staysReady x answer → calm t
@@ -64,23 +60,23 @@ Other answer t = codeOf answer ≡ 0x11 → ⊥
 module _ (prims : Primitives) (map : Map) (m : Machine) where
   move-other : (target : ℕ) → Gives Other (moveAct prims map m target)
   unfolding moveAct
-  move-other target = Gives.programs (λ cell. differs tt) (Gives.says (differs tt))
+  move-other target = Gives.programs (λ cell. unequal tt) (Gives.says (unequal tt))
 
   locked-other : (k : Token) (target given : ℕ) → Gives Other (lockedTokenAct prims map m k target given)
   unfolding lockedTokenAct
-  locked-other k target given = gives-either _ (Gives.says (differs tt)) (Gives.compares (move-other target) (Gives.says (differs tt)))
+  locked-other k target given = gives-either _ (Gives.says (unequal tt)) (Gives.compares (move-other target) (Gives.says (unequal tt)))
 
   token-other : (k : Token) (target given : ℕ) → Gives Other (tokenAct prims map m k target given)
   unfolding tokenAct
   token-other Nothing target given = move-other target
-  token-other RawUnlock target given = Gives.compares (move-other target) (Gives.says (differs tt))
+  token-other RawUnlock target given = Gives.compares (move-other target) (Gives.says (unequal tt))
   token-other TestUnlock target given = locked-other TestUnlock target given
   token-other TestExit target given = locked-other TestExit target given
   token-other Rma target given = locked-other Rma target given
 
   pub entry-other : (e : Entry) (target given : ℕ) → Gives Other (entryAct prims map m e target given)
   unfolding entryAct
-  entry-other Forbidden target given = Gives.says (differs tt)
+  entry-other Forbidden target given = Gives.says (unequal tt)
   entry-other (Allowed k) target given = token-other k target given
 
   loud : {x : Act} → Gives Other x → Gives (λ answer t. codeOf answer ≡ 0x11 → calm t) x
@@ -96,8 +92,8 @@ module _ (prims : Primitives) (map : Map) (m : Machine) where
   command-calm (Digest a) = search (gives-either, Gives.says, Gives.programs) depth 9
   command-calm (ReadLock number) = search (gives-either, Gives.says) depth 9
   command-calm (Transition target high low) =
-      gives-either _ (Gives.says (λ e. tt)) (gives-either _ (Gives.says (λ e. tt)) (gives-either _ (Gives.says (λ e. absurd (differs tt e)))
-      (Gives.programs (λ cell e. absurd (differs tt e)) (loud (entry-other (transition (m .session .state) target) target _)))))
+      gives-either _ (Gives.says (λ e. tt)) (gives-either _ (Gives.says (λ e. tt)) (gives-either _ (Gives.says (λ e. absurd (unequal tt e)))
+      (Gives.programs (λ cell e. absurd (unequal tt e)) (loud (entry-other (transition (m .session .state) target) target _)))))
   command-calm PowerUp = Gives.says (λ e. tt)
 
   pub act-calm : (x : Command) → Gives (Calm x) (readyAct prims map m x)
@@ -117,7 +113,7 @@ module _ (prims : Primitives) (map : Map) (m : Machine) where
   unfolding readyAct commandAct transitionAct perform
   unmoved target high low =
       if-both Q _ _ _ (λ t e. refl) λ t. if-both Q _ _ _ (λ t e. refl) λ t. if-both Q _ _ _ (λ t e. refl) λ t. if-both Q _ _ _ (λ t e. refl) λ t. λ e.
-      absurd (perform-gives (Gives.programs (λ cell. differs tt) (entry-other (transition (m .session .state) target) target _)) (m .lent .copy) (m .lent .cells) e)
+      absurd (perform-gives (Gives.programs (λ cell. unequal tt) (entry-other (transition (m .session .state) target) target _)) (m .lent .copy) (m .lent .cells) e)
     where
       Q : Act → Type 0
       Q x = codeOf (perform x (m .lent .copy) (m .lent .cells) .answer) ≡ 0x11 → perform x (m .lent .copy) (m .lent .cells) .cells ≡ m .lent .cells

@@ -1,12 +1,12 @@
 -- One command and lists of commands, whatever the command. The idea: a step is a refusal that changes nothing, a power-up or a performed act.
 use mathlib.Core.Path.{_≡_, refl, _∙_}
-use mathlib.Core.Bool.{Bool, true, not, _&&_}
+use mathlib.Core.Bool.{true, not}
 use mathlib.Core.List.{List, [], _∷_, _++_}
 use Prim.Native.Nat.{ℕ, _/_}
 use lib.Dec.{eqb}
 use lib.ListN.{length}
 use borrow.Author.Tests.{eqb-true, eq-eqb}
-use Rattle.basics.proofs.Choice.{if-both, if-false, and-left, and-right}
+use Rattle.basics.proofs.Choice.{if-both, if-false, and-three}
 use Rattle.basics.proofs.Range.{length-listed}
 use Rattle.words.specs.Programming.{Kept}
 use Rattle.words.proofs.Programming.{kept-refl, kept-trans}
@@ -77,9 +77,8 @@ module _ (prims : Primitives) (map : Map) where
       → (length (l .cells) ≡ limit map / 2) × (length (l .copy) ≡ limit map / 2) × (length (l .constants) ≡ 132)
   unfolding rightLengths
   lengths-of l e =
-      let a : Bool = eqb (length (l .cells)) (limit map / 2) && eqb (length (l .copy)) (limit map / 2) in
-      let f : (eqb (length (l .cells)) (limit map / 2) && eqb (length (l .copy)) (limit map / 2)) ≡ true = and-left _ (eqb (length (l .constants)) 132) e in
-      (eqb-true _ _ (and-left _ _ f), eqb-true _ _ (and-right (eqb (length (l .cells)) (limit map / 2)) _ f), eqb-true _ _ (and-right a _ e))
+      let s = and-three (eqb (length (l .cells)) (limit map / 2)) (eqb (length (l .copy)) (limit map / 2)) _ e in
+      (eqb-true _ _ (s .0), eqb-true _ _ (s .1), eqb-true _ _ (s .2))
 
   pub cells-length : (m : Machine) → Right map m → length (m .lent .cells) ≡ limit map / 2
   cells-length m r = lengths-of (m .lent) (r .lengths) .0

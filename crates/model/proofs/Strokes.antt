@@ -1,15 +1,15 @@
 -- Transitions from power-up on. The idea: while the phase is Ready the cells hold the record's state and count; the words of one stroke more,
 -- and of an allowed state, cover those words, so no transition answers 4, and what is decoded only moves along the table.
-use mathlib.Core.Path.{_≡_, refl, sym, ap, ap₂, subst, _∙_}
+use mathlib.Core.Path.{_≡_, refl, ap, ap₂, _∙_}
 use mathlib.Core.Bool.{Bool, true, false, not}
 use mathlib.Core.List.{List, [], _∷_, _++_}
 use mathlib.Core.Option.{Option, none, some}
 use Prim.Native.Nat.{ℕ, suc, _+_, _*_, _^_, _≤_, _<_}
 use native.Mathlib.Omega.{arith}
-use lib.Dec.{T, T-not, eqb}
+use lib.Dec.{T, eqb}
 use lib.ListN.{length, getD}
 use borrow.Author.Tests.{ltb-true, not-false}
-use Rattle.basics.proofs.Choice.{true-not-false, if-both}
+use Rattle.basics.proofs.Choice.{true-not-false, unequal, if-both}
 use Rattle.words.specs.declared.Programmed.the-variants as programmed
 use Rattle.words.specs.Words.{partAt}
 use Rattle.words.specs.Programming.{programAnswer, programCells}
@@ -81,10 +81,6 @@ pub data Moved (prims : Primitives) (map : Map) (m : Machine) (target : ℕ) (r 
       (stateAt prims map) (stateWords (m .lent .constants) target)
       → stops (r .turn) → (codeOf (r .answer) ≡ 0x04 → ⊥) → Moved prims map m target r
 
--- a code that is not 4
-not-four : {n : ℕ} → T (not (eqb n 0x04)) → n ≡ 0x04 → ⊥
-not-four {n} t e = T-not (eqb n 0x04) t (subst (λ (x : ℕ). T (eqb x 0x04)) (sym e) tt)
-
 noted : (prims : Primitives) (map : Map) (m : Machine) (target : ℕ) (b : Bool) (r : Performed) → Moved prims map m target r → Moved prims map m target (noting b r)
 unfolding noting
 noted prims map m target b r (still e f) = still e f
@@ -126,11 +122,11 @@ module _ (prims : Primitives) (map : Map) (F : fit map ≡ true) (m : Machine) (
 
     said : (answer : Answer) → T (not (eqb (codeOf answer) 0x04)) → Ok (perform (say answer halt) (m .lent .copy) cells₁)
     unfolding perform
-    said answer t = spent live room refl halt-stops (not-four t)
+    said answer t = spent live room refl halt-stops (unequal t)
 
     move-ok : {token : Token} → transition (m .session .state) target ≡ Allowed token → Ok (perform (moveAct prims map m target) (m .lent .copy) cells₁)
     unfolding moveAct perform afterProgram
-    move-ok a = rw (move-fits target a) (reached live room a refl halt-stops (not-four tt))
+    move-ok a = rw (move-fits target a) (reached live room a refl halt-stops (unequal tt))
 
     compared-ok : {token : Token} → transition (m .session .state) target ≡ Allowed token → (test : List ℕ → Bool) (answer : Answer) → T (not (eqb (codeOf answer) 0x04))
         → Ok (perform (compare test (moveAct prims map m target) (say answer halt)) (m .lent .copy) cells₁)
@@ -165,7 +161,7 @@ module _ (prims : Primitives) (map : Map) (F : fit map ≡ true) where
       → Moved prims map m target (perform (readyAct prims map m (Transition target high low)) (m .lent .copy) (m .lent .cells))
   unfolding readyAct commandAct transitionAct perform
   transition-moves m r live target high low =
-      if-both Q _ _ _ (λ e. still refl (not-four tt)) λ ready. if-both Q _ _ _ (λ e. still refl (not-four tt)) λ e. if-both Q _ _ _ (λ e. still refl (not-four tt)) λ e. if-both Q _ _ _ (λ e. still refl (not-four tt))
+      if-both Q _ _ _ (λ e. still refl (unequal tt)) λ ready. if-both Q _ _ _ (λ e. still refl (unequal tt)) λ e. if-both Q _ _ _ (λ e. still refl (unequal tt)) λ e. if-both Q _ _ _ (λ e. still refl (unequal tt))
       λ room. spend-ok prims map F m r (live .holds (not-false _ ready)) (ltb-true _ _ (not-false _ room)) target (high * 2 ^ 64 + low)
     where
       Q : Act → Type 0

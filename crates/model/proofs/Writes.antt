@@ -1,28 +1,25 @@
 -- A write that the rules allow takes effect and reads back. The idea: on a fresh chip the guards pass and the granule is programmed; while Ready
 -- lasts only a write to that granule that answers 0 changes its words; and a read of them unscrambles what was scrambled.
 use mathlib.Core.Path.{_≡_, refl, sym, ap, ap₂, _∙_}
-use mathlib.Core.Bool.{Bool, true, false, not, _&&_}
+use mathlib.Core.Bool.{true, false, not, _&&_}
 use mathlib.Core.List.{List, [], _∷_}
 use Prim.Native.Nat.{ℕ, _+_, _*_, _/_, _^_, _≤_, _<_}
-use native.Mathlib.Nat.{mod-eq-of-lt}
 use native.Mathlib.Omega.{arith}
-use lib.Dec.{ltb, lit<}
-use lib.ListN.{getD, List·getD-eq-default}
-use borrow.Author.Tests.{leb-false, lt-leb, eq-eqb, ltb-true, ltb-false, not-false}
-use Rattle.basics.specs.Range.{listed}
-use Rattle.basics.proofs.Choice.{by-cases, true-not-false, not-passed, and-both, if-true, if-false, if-both}
-use Rattle.basics.proofs.Range.{listed-from, length-listed}
+use lib.Dec.{lit<}
+use lib.ListN.{getD}
+use borrow.Author.Tests.{leb-false, lt-leb, eq-eqb, not-false}
+use Rattle.basics.proofs.Choice.{by-cases, true-not-false, not-passed, and-both, and-false, if-true, if-false, if-both}
 use Rattle.words.specs.declared.Programmed.the-variants as programmed
 use Rattle.words.specs.Words.{numberOf, wordsOf, partAt}
 use Rattle.words.specs.Programming.{programAnswer, programCells}
-use Rattle.words.proofs.Words.{Words, length-words, number-lt, number-words}
-use Rattle.words.proofs.Parts.{part-same, length-part}
+use Rattle.words.proofs.Words.{length-words, number-block}
+use Rattle.words.proofs.Parts.{part-number-lt, part-same}
 use Rattle.words.proofs.Programming.{program-elsewhere, program-takes}
 use Rattle.partitions.specs.declared.Kind.{Kind}
 use Rattle.partitions.specs.declared.Kind.the-variants as kind
 use Rattle.partitions.specs.declared.Partition.{Partition}
 use Rattle.partitions.specs.Fitness.{fit}
-use Rattle.partitions.proofs.KindRights.{hardware-direct, scrambled-hardware}
+use Rattle.partitions.proofs.KindRights.{hardware-direct, soft-plain}
 use Rattle.partitions.proofs.Map.{inside}
 use Rattle.partitions.proofs.Granules.{OneGranule, scrambled-words, granule-inside, granule-within, word-inside, word-number, shared-word, digest-word}
 use Rattle.partitions.specs.Map.{Map, rightsOf, numberAt, partitionAt, limit, inDigest, firstWord, wordCount}
@@ -42,40 +39,19 @@ use Rattle.model.proofs.Ready.{unmoved, step-act, Fresh, first-fresh, s
 
 -- ---- keys fit, so scrambling can be undone
 
-part-small : (c : List ℕ) (at n : ℕ) → ((i : ℕ) → getD c i 0 < 65536) → Words (partAt c at n)
-unfolding partAt
-part-small c at n h = record { small = λ i. by-cases (ltb i n) (here i) (past i) }
-  where
-    here : (i : ℕ) → ltb i n ≡ true → getD (listed (λ j. getD c j 0) at n) i 0 < 65536
-    here i t = rw (listed-from (λ j. getD c j 0) 0 at n i (ltb-true _ _ t)) (h (at + i))
-
-    past : (i : ℕ) → ltb i n ≡ false → getD (listed (λ j. getD c j 0) at n) i 0 < 65536
-    past i t = rw (List·getD-eq-default (listed (λ j. getD c j 0) at n) 0 {n = i} (rw (length-listed (λ j. getD c j 0) at n) (ltb-false _ _ t))) (lit< tt)
-
-eight-words : (c : List ℕ) (at : ℕ) → ((i : ℕ) → getD c i 0 < 65536) → numberOf (partAt c at 8) < 2 ^ 128
-eight-words c at h = rw length-part at (number-lt (partAt c at 8) (part-small c at 8 h))
-
 key-fits : (c : List ℕ) (k : Kind) → ((i : ℕ) → getD c i 0 < 65536) → keyOf c k < 2 ^ 128
 unfolding keyOf
 key-fits c kind.Software h = lit< tt
 key-fits c kind.HwCfg h = lit< tt
-key-fits c kind.Secret0 h = eight-words c 0 h
-key-fits c kind.Secret1 h = eight-words c 8 h
-key-fits c kind.Secret2 h = eight-words c 16 h
+key-fits c kind.Secret0 h = part-number-lt (record { small = h }) 0 8
+key-fits c kind.Secret1 h = part-number-lt (record { small = h }) 8 8
+key-fits c kind.Secret2 h = part-number-lt (record { small = h }) 16 8
 key-fits c kind.LifeCycle h = lit< tt
 
 module _ (prims : Primitives) (C : Cipher prims) (map : Map) (F : fit map ≡ true) where
   -- a scrambled granule is a block
   block-words : (a : ℕ) → a < limit map → rightsOf (partitionAt map a .kind) .scrambled ≡ true → wordCount (partitionAt map a) a ≡ 4
   block-words a l t = scrambled-words (inside map F l .fits) t a
-
-  -- where there is no hardware digest data is plain
-  plain-kind : (k : Kind) → rightsOf k .hardware ≡ false → rightsOf k .scrambled ≡ false
-  plain-kind k e = not-passed _ (λ t. true-not-false (scrambled-hardware k t) e)
-
-  -- four words hold a block
-  block-back : (x : ℕ) → x < 2 ^ 64 → numberOf (wordsOf 4 x) ≡ x
-  block-back x h = number-words 4 x ∙ mod-eq-of-lt h
 
   -- what is read of the words that a write stored
   read-stored : (constants : List ℕ) → ((i : ℕ) → getD constants i 0 < 65536) → (a value : ℕ) → a < limit map → value < 2 ^ 64
@@ -88,7 +64,7 @@ module _ (prims : Primitives) (C : Cipher prims) (map : Map) (F : fit map ≡ tr
       by-cases (rightsOf (p .kind) .scrambled)
       (λ t. rw (t, block-words a l t) (if-true _ _ refl
       ∙ ap (λ (x : ℕ). prims .decrypt key (numberOf (wordsOf 4 x))) (if-true (prims .encrypt key value) value refl)
-      ∙ ap (prims .decrypt key) (block-back (prims .encrypt key value) (C .fits key value fits v)) ∙ C .back key value fits v ∙ sym (block-back value v)))
+      ∙ ap (prims .decrypt key) (number-block (prims .encrypt key value) (C .fits key value fits v)) ∙ C .back key value fits v ∙ sym (number-block value v)))
       (λ t. rw t (if-false _ _ refl ∙ ap (λ (x : ℕ). numberOf (wordsOf (wordCount p a) x)) (if-false (prims .encrypt key value) value refl)))
 
   -- ---- it takes effect
@@ -102,13 +78,6 @@ module _ (prims : Primitives) (C : Cipher prims) (map : Map) (F : fit map ≡ tr
   unfolding sensedLocked partitionAt
   not-sensed c₀ m f a l d z = rw (eq-eqb _ 0 (f .felt (numberAt map a) (direct-known a l d) ∙ z))
 
-  is-not : {b : Bool} → b ≡ true → not b ≡ false
-  is-not e = rw e
-
-  and-no : (a : Bool) {b : Bool} → b ≡ false → (a && b) ≡ false
-  and-no true e = e
-  and-no false e = refl
-
   -- where the guards pass and no word refuses, the granule is programmed
   write-performed : (c₀ : List ℕ) (m : Machine) → Fresh map c₀ m → (a value : ℕ) → Allowed prims map (m .lent .constants) c₀ (m .lent .cells) a value
       → perform (readyAct prims map m (Write a value)) (m .lent .copy) (m .lent .cells)
@@ -121,7 +90,7 @@ module _ (prims : Primitives) (C : Cipher prims) (map : Map) (F : fit map ≡ tr
   unfolding readyAct commandAct writeAct perform afterProgram
   write-performed c₀ m f a value al =
       ap (λ (x : Act). perform x (m .lent .copy) (m .lent .cells))
-      (if-false _ _ (is-not (f .awake)) ∙ if-false _ _ (lt-leb _ _ (al .below)) ∙ if-false _ _ (is-not (al .direct)) ∙ if-false _ _ (al .notDigest)
+      (if-false _ _ (ap not (f .awake)) ∙ if-false _ _ (lt-leb _ _ (al .below)) ∙ if-false _ _ (ap not (al .direct)) ∙ if-false _ _ (al .notDigest)
       ∙ if-false _ _ (not-sensed c₀ m f a (al .below) (al .direct) (al .unlocked)))
       ∙ rw (al .keeps)
 
@@ -268,7 +237,7 @@ module _ (prims : Primitives) (C : Cipher prims) (map : Map) (F : fit map ≡ tr
       -- a digest that direct access may write is stored plain
       digest-is : (m : Machine) (value : ℕ) → Right map m → value < 2 ^ 64 → inDigest (partitionAt map b) b ≡ true
           → partAt (m .lent .cells) first count ≡ storedWords prims map (m .lent .constants) a value → granule (partitionAt map b) (m .lent .cells) b ≡ usedValue map a value
-      digest-is m value r v t e = sym (plain (plain-kind _ soft)) ∙ data-is m value r v e
+      digest-is m value r v t e = sym (plain (soft-plain _ soft)) ∙ data-is m value r v e
         where
           soft : rightsOf (partitionAt map b .kind) .hardware ≡ false
           soft = rw same-partition (not-passed _ (λ h. true-not-false (and-both _ _ h (sym same-side ∙ t)) open?))
@@ -285,10 +254,10 @@ module _ (prims : Primitives) (C : Cipher prims) (map : Map) (F : fit map ≡ tr
       read-act c₀ m value v f d z e k =
           let d′ : rightsOf (partitionAt map b .kind) .direct ≡ true = rw same-partition d in
           let z′ : storedDigest (partitionAt map b) c₀ ≡ 0 = rw same-partition z in
-          if-false _ _ (is-not (f .awake)) ∙ if-false _ _ (lt-leb _ _ low) ∙ if-false _ _ (is-not d′)
+          if-false _ _ (ap not (f .awake)) ∙ if-false _ _ (lt-leb _ _ low) ∙ if-false _ _ (ap not d′)
           ∙ by-cases (inDigest (partitionAt map b) b)
           (λ t. if-true _ _ t ∙ ap (λ (x : ℕ). say (Done x) stay) (digest-is m value (f .right) v t e))
-          (λ t. if-false _ _ t ∙ if-false _ _ (k t) ∙ if-false _ _ (and-no (rightsOf (partitionAt map b .kind) .scrambled) (not-sensed c₀ m f b low d′ z′))
+          (λ t. if-false _ _ t ∙ if-false _ _ (k t) ∙ if-false _ _ (and-false (rightsOf (partitionAt map b .kind) .scrambled) (not-sensed c₀ m f b low d′ z′))
           ∙ ap (λ (x : ℕ). say (Done x) stay) (data-is m value (f .right) v e))
 
       read-back : (c₀ : List ℕ) (m : Machine) (value : ℕ) → value < 2 ^ 64 → Fresh map c₀ m → rightsOf (partitionAt map a .kind) .direct ≡ true

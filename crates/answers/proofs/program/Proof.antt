@@ -1,28 +1,12 @@
 -- A refusing cell holds a bit, so it is one of the cells, and one more than its index fits.
-use mathlib.Core.Path.{_≡_, sym, _∙_}
-use mathlib.Core.Bool.{true, false}
-use mathlib.Core.List.{List}
-use Prim.Native.Nat.{ℕ, _≤_, _<_}
+use mathlib.Core.Path.{sym, _∙_}
 use native.Mathlib.Omega.{arith}
-use lib.ListN.{length, getD, take, List·getD-eq-default}
+use lib.ListN.{take}
 use lib.Seq.{length-take-le}
 use borrow.Author.Needs.{needs}
-use Rattle.words.specs.declared.Programmed.the-variants.{Refused}
-use Rattle.words.specs.Programming.{refuses, programAnswer}
-use Rattle.words.proofs.Programming.{blank-passes, refused-lowest}
+use Rattle.words.proofs.Programming.{refused-inside}
 use Rattle.answers.proofs.program.Statement.{statement}
 use Rattle.answers.proofs.program.Tie as tie
-
-refused-inside : (c vs : List ℕ) (at i : ℕ) → programAnswer c at vs ≡ Refused i → i < length c
-refused-inside c vs at i e =
-    let r = refused-lowest vs c at i e in
-    omega (arith, out _ (r .refused))
-  where
-    out : (v : ℕ) → refuses (getD c i 0) v ≡ true → length c ≤ i → ⊥
-    out v s h =
-        let f : refuses (getD c i 0) v ≡ false = rw (List·getD-eq-default c 0 {n = i} h) (blank-passes v) in
-        let z : _≡_ {A = ℕ} 0 1 = cc in
-        omega arith
 
 slice-relend-prefix-program : tie.Need-slice-relend-prefix-program
 slice-relend-prefix-program c = search needs
