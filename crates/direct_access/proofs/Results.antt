@@ -1,6 +1,6 @@
 -- The results of the commands on an address. The idea: where no place is reached, or the command may not act there, nothing changes; else the result
 -- is what the command's act comes to.
-use mathlib.Core.Path.{_≡_, refl, sym, ap, ap₂, _∙_}
+use mathlib.Core.Path.{_≡_, sym, ap, ap₂, _∙_}
 use mathlib.Core.Bool.{Bool, true, false}
 use mathlib.Core.List.{List}
 use Prim.Native.Nat.{ℕ, _≤_}

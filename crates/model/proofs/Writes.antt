@@ -12,7 +12,6 @@ use borrow.Author.Tests.{leb-false, lt-leb, eq-eqb, ltb-true, ltb-false, not-fal
 use Rattle.basics.specs.Range.{listed}
 use Rattle.basics.proofs.Choice.{by-cases, true-not-false, not-passed, and-both, if-true, if-false, if-both}
 use Rattle.basics.proofs.Range.{listed-from, length-listed}
-use Rattle.words.specs.declared.Programmed.the-variants as programmed
 use Rattle.words.specs.Words.{numberOf, wordsOf, partAt}
 use Rattle.words.specs.Programming.{programAnswer, programCells}
 use Rattle.words.proofs.Words.{Words, length-words, number-lt, number-words}
