@@ -9,7 +9,6 @@ use lib.Dec.{lit<}
 use lib.ListN.{getD}
 use borrow.Author.Tests.{leb-false, lt-leb, eq-eqb, not-false}
 use Rattle.basics.proofs.Choice.{by-cases, true-not-false, not-passed, and-both, and-false, if-true, if-false, if-both}
-use Rattle.words.specs.declared.Programmed.the-variants as programmed
 use Rattle.words.specs.Words.{numberOf, wordsOf, partAt}
 use Rattle.words.specs.Programming.{programAnswer, programCells}
 use Rattle.words.proofs.Words.{length-words, number-block}

@@ -46,15 +46,6 @@ module _ (room : ℕ) (bytes : List ℕ) where
     unfolding lentWords
     lent-fits h = rw file-even (if-true _ _ (le-leb (length (pairs bytes)) room (omega (arith, pairs-length bytes))))
 
-file-short : (bytes : List ℕ) → length (fileWords bytes) ≤ length bytes / 2
-unfolding fileWords
-file-short bytes = if-both (λ (ws : List ℕ). length ws ≤ length bytes / 2) _ (pairs bytes) [] (λ _. omega (arith, pairs-length bytes)) (λ _. omega arith)
-
--- a file that fits is lent whole
-pub lent-whole : (room : ℕ) (bytes : List ℕ) → length bytes / 2 ≤ room → lentWords room bytes ≡ fileWords bytes
-unfolding lentWords
-lent-whole room bytes h = if-true _ _ (le-leb (length (fileWords bytes)) room (omega (arith, file-short bytes)))
-
 -- ---- what `file_words` ends with
 
 -- the words after a file was lent
