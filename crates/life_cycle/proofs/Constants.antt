@@ -4,10 +4,9 @@ use mathlib.Core.Bool.{Bool, true, false, not, _&&_}
 use mathlib.Core.List.{List}
 use Prim.Native.Nat.{ℕ, _<_}
 use lib.Bits.{bitOr, or-zero-r}
-use lib.Dec.{T, eqb, ltb}
+use lib.Dec.{eqb}
 use borrow.Author.Tests.{eqb-false, eq-eqb, ne-eqb, not-true}
-use Rattle.basics.specs.Choice.{if_then_else_}
-use Rattle.basics.specs.Range.{allBelow, anyBelow, listed}
+use Rattle.basics.specs.Range.{allBelow}
 use Rattle.basics.proofs.Choice.{by-cases, true-not-false, to-T, and-left, and-right}
 use Rattle.basics.proofs.Range.{all-at}
 use Rattle.words.specs.Programming.{losesBit}
@@ -52,8 +51,3 @@ module _ (constants : List ℕ) (valid : validConstants constants ≡ true) wher
       let first : ℕ → Bool = λ i. pairValid (constC constants i) (constD constants i) in
       let test : ℕ → Bool = λ i. pairValid (constA constants i) (constB constants i) in
       pair _ _ (all-at 20 test (to-T (and-right (allBelow 24 first) _ valid)) i h)
-
--- there are valid constants: 1 for each lower and 3 for each upper one
-some-valid : T (validConstants (listed (λ i. if ltb i 60 then 1 else if ltb i 84 then 3 else if ltb i 104 then 1 else 3) 0 132))
-unfolding validConstants pairValid losesBit allBelow anyBelow listed if_then_else_
-some-valid = tt
