@@ -49,7 +49,8 @@ loop-again c =
     let at = t .before .loop .at in
     let s = t .before .loop .state in
     let e = ap₂ (λ (x y : ℕ). absorb (x * 2 ^ 64 + y) s) (c .before .before .block-at .ensures) (c .before .block-at2 .ensures) in
-    (omega arith, t .before .loop .inv .1 ∙ absorb-from s ws at (omega arith) ∙ ap (λ (x : ℕ). absorbAll x (blocksOf (drop (at + 8) ws))) (sym (c .absorbed .ensures ∙ e)))
+    let state = ap (λ (x : ℕ). absorbAll x (blocksOf (drop (at + 8) ws))) (sym (c .absorbed .ensures ∙ e)) in
+    (omega arith, t .before .loop .inv .1 ∙ absorb-from s ws at (omega arith) ∙ state)
 
 mul-absorbed-rest : tie.Need-mul-absorbed-rest Inv-loop μ-loop
 mul-absorbed-rest c = search needs
@@ -78,8 +79,8 @@ returns c =
     let o = l .before .before in
     let ws = o .args .words .now in
     let key = o .args .final-high * 2 ^ 64 + o .args .final-low in
-    c .absorbed2 .ensures
-    ∙ ap (absorb key) (c .before .absorbed-rest .ensures ∙ ap (λ (w : List ℕ). absorbAll (l .loop .state) (blocksOf w)) (rest-slice ws (l .loop .at)) ∙ sym (l .loop .inv .1))
+    let rest = ap (λ (w : List ℕ). absorbAll (l .loop .state) (blocksOf w)) (rest-slice ws (l .loop .at)) in
+    c .absorbed2 .ensures ∙ ap (absorb key) (c .before .absorbed-rest .ensures ∙ rest ∙ sym (l .loop .inv .1))
 
 pub digest-spec : {M : Type 1} → statement M
 digest-spec =

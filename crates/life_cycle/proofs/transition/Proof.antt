@@ -62,13 +62,15 @@ third e = second (e .before .before .before)
 abbrev fourth : tie.Else4 → tie.After-test-index2
 fourth e = third (e .before .before)
 
-lock : (b : tie.After-is-locked) {v : Bool} → let i = first (b .before .before) in (b .before .is-unlocked .result && b .is-locked .result && leb (n i) (m i)) ≡ v
+lock : (b : tie.After-is-locked) {v : Bool}
+    → let i = first (b .before .before) in (b .before .is-unlocked .result && b .is-locked .result && leb (n i) (m i)) ≡ v
     → (isUnlocked (from i) && isLocked (to i) && leb (testIndex (from i)) (testIndex (to i))) ≡ v
 lock b e =
     let i = first (b .before .before) in
     sym (both (both (b .before .is-unlocked .ensures) (b .is-locked .ensures)) (ap₂ leb (i .before .test-index .ensures) (i .test-index2 .ensures))) ∙ e
 
-unlock : (b : tie.After-is-unlocked2) {v : Bool} → let i = second (b .before .before) in (b .before .is-locked2 .result && b .is-unlocked2 .result && ltb (n i) (m i)) ≡ v
+unlock : (b : tie.After-is-unlocked2) {v : Bool}
+    → let i = second (b .before .before) in (b .before .is-locked2 .result && b .is-unlocked2 .result && ltb (n i) (m i)) ≡ v
     → (isLocked (from i) && isUnlocked (to i) && ltb (testIndex (from i)) (testIndex (to i))) ≡ v
 unlock b e =
     let i = second (b .before .before) in
