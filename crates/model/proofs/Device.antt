@@ -1,7 +1,7 @@
--- The device code is final, and only a power-up senses. The idea: every power-up that succeeds latches the words of a locked partition as they
+-- The device code is final. The idea: every power-up that succeeds latches the words of a locked partition as they
 -- were when it was found locked, and no other command writes the copy.
 use mathlib.Core.Path.{_≡_, refl, sym, ap, _∙_}
-use mathlib.Core.Bool.{true, not}
+use mathlib.Core.Bool.{true}
 use mathlib.Core.List.{List, [], _∷_, _++_}
 use Prim.Native.Nat.{ℕ, _+_, _*_, _/_, _≤_, _<_}
 use native.Mathlib.Omega.{arith}
@@ -16,20 +16,20 @@ use Rattle.partitions.specs.Map.{Map, rightsOf, numberAt, partition, partitionA
 use Rattle.partitions.specs.Fitness.{fit}
 use Rattle.partitions.proofs.Map.{only, partition-at, partition-fit, end-within}
 use Rattle.partitions.proofs.Granules.{word-inside}
-use Rattle.model.specs.declared.Answer.the-variants.{Done, Denied, NotReady}
+use Rattle.model.specs.declared.Answer.the-variants.{Done}
 use Rattle.model.specs.declared.Command.{Command}
-use Rattle.model.specs.declared.Command.the-variants.{Read, Write, FrontRead, Digest, ReadLock, Transition, PowerUp}
+use Rattle.model.specs.declared.Command.the-variants.{FrontRead, PowerUp}
+use Rattle.model.specs.Answers.{valueOf}
 use Rattle.model.specs.Session.{isReady}
-use Rattle.life_cycle.specs.Constants.{validConstants}
-use Rattle.model.specs.Lent.{Lent, Machine, Primitives, rightLengths}
+use Rattle.model.specs.Lent.{Lent, Machine, Primitives}
 use Rattle.model.specs.Acts.{Act, perform}
 use Rattle.model.specs.Commands.{granule, storedDigest, frontReadAct, commandAct, readyAct}
 use Rattle.model.specs.PowerUp.{Waking, fails, wakes, waking, copyWord, wokenCopy, wokenSession}
 use Rattle.model.specs.Step.{Step, unchanged, performed, act, powerUp, obey, step, after}
 use Rattle.model.specs.Terms.{Right, Digested, SamePartition}
-use Rattle.model.specs.Beyond.{quiet, Quiet}
-use Rattle.model.proofs.Steps.{after-append, step-all, step-obeys, step-up, after-right}
-use Rattle.model.proofs.Locks.{same-refl, same-trans, turned-ready, turned-sensed, Locked, up-locked, step-locked}
+use Rattle.model.proofs.Acts.{not-done}
+use Rattle.model.proofs.Steps.{outcome, after-append, step-all, step-obeys, step-up, after-right}
+use Rattle.model.proofs.Locks.{same-refl, same-trans, turned-ready, Locked, up-locked, step-locked}
 use Rattle.model.proofs.Chips.{front-latched}
 
 -- ---- what a front read that answers 0 shows
@@ -40,23 +40,15 @@ module _ (prims : Primitives) (map : Map) where
     below : a < limit map
     shown : value ≡ granule (partitionAt map a) (m .lent .copy) a
 
-  front-seen : (m : Machine) (a value : ℕ) → perform (readyAct prims map m (FrontRead a)) (m .lent .copy) (m .lent .cells) .answer ≡ Done value → Seen m a value
+  front-seen : (m : Machine) (a value : ℕ) → outcome prims map (FrontRead a) m .answer ≡ Done value → Seen m a value
   unfolding readyAct commandAct frontReadAct perform
   front-seen m a value =
-      if-both Q _ _ _ (λ t e. unready e) λ r. if-both Q _ _ _ (λ t e. denied e) λ l. if-both Q _ _ _ (λ t e. denied e) λ t. if-both Q _ _ _ (λ t e. denied e)
-      λ t e. record { awake = not-false _ r; below = leb-false _ _ l; shown = value-of e }
+      if-both Q _ _ _ (λ t e. absurd (not-done refl e)) λ r. if-both Q _ _ _ (λ t e. absurd (not-done refl e)) λ l.
+      if-both Q _ _ _ (λ t e. absurd (not-done refl e)) λ t. if-both Q _ _ _ (λ t e. absurd (not-done refl e)) λ t e.
+      record { awake = not-false _ r; below = leb-false _ _ l; shown = sym (ap valueOf e) }
     where
       Q : Act → Type 0
       Q x = perform x (m .lent .copy) (m .lent .cells) .answer ≡ Done value → Seen m a value
-
-      unready : NotReady ≡ Done value → Seen m a value
-      unready e = absurd (let z : _≡_ {A = ℕ} 0 1 = cc in omega arith)
-
-      denied : Denied ≡ Done value → Seen m a value
-      denied e = absurd (let z : _≡_ {A = ℕ} 0 1 = cc in omega arith)
-
-      value-of : {v : ℕ} → Done v ≡ Done value → value ≡ v
-      value-of e = cc
 
 -- ---- what the copy holds of a partition that was found locked over the cells c₁
 
@@ -136,37 +128,3 @@ device-final prims map F m r n D front l₁ l₂ z a value e =
 
     latched : Latched prims map F n D front c₁ (after prims map (l₁ ++ PowerUp ∷ l₂) m)
     latched = rw after-append (unfold after in (after-latched prims map F n D front c₁ l₂ (step prims map PowerUp m₁ .result .machine) up))
-
--- ---- a list without power-up and transition
-
-module _ (prims : Primitives) (map : Map) where
-  -- the copy and the sensed digests are as they were
-  abbrev Unsensed : Machine → Machine → Type 0
-  Unsensed m m′ = (m′ .lent .copy ≡ m .lent .copy) × (m′ .session .sensed ≡ m .session .sensed)
-
-  quiet-obeys : (x : Command) (m : Machine) → quiet x → obey prims map x m ≡ act prims map x m
-  unfolding obey
-  quiet-obeys (Read a) m q = refl
-  quiet-obeys (Write a value) m q = refl
-  quiet-obeys (FrontRead a) m q = refl
-  quiet-obeys (Digest a) m q = refl
-  quiet-obeys (ReadLock number) m q = refl
-  quiet-obeys (Transition target high low) m q = absurd q
-  quiet-obeys PowerUp m q = absurd q
-
-  step-unsensed : (x : Command) (m : Machine) → quiet x → Unsensed m (step prims map x m .result .machine)
-  unfolding step unchanged act performed
-  step-unsensed x m q =
-      if-both Q (not (rightLengths map (m .lent))) _ _ (λ e. (refl, refl))
-      (λ e. if-both Q (not (validConstants (m .lent .constants))) _ _ (λ e. (refl, refl)) (λ e. rw (quiet-obeys x m q) (refl, turned-sensed _ (m .session))))
-    where
-      Q : Step → Type 0
-      Q s = Unsensed m (s .result .machine)
-
-  pub after-unsensed : (m : Machine) (l : List Command) → Quiet l → Unsensed m (after prims map l m)
-  unfolding after
-  after-unsensed m [] q = (refl, refl)
-  after-unsensed m (x ∷ l) q =
-      let s = step-unsensed x m (q .0) in
-      let t = after-unsensed (step prims map x m .result .machine) l (q .1) in
-      (t .0 ∙ s .0, t .1 ∙ s .1)

@@ -7,6 +7,7 @@ pub mod Writes
 pub mod Chips
 pub mod Strokes
 pub mod Device
+pub mod Quiet
 pub mod Theorems
 pub mod Everything
 pub mod Cases

@@ -92,7 +92,7 @@ module _ (prims : Primitives) (map : Map) (F : fit map ≡ true) (n : ℕ) (D : 
   up-locked m h = record { burnt = h; felt = woken-felt (waking prims map (m .lent)) (m .lent) h }
 
   shut : (x : Command) (m : Machine) → Locked m → (j : ℕ) → partition map n .start ≤ 2 * j → 2 * j < partition map n .end → Open map x (m .session) j → ⊥
-  shut x m k j l u (unlocked r d z) = k .felt r (rw (only map F (D .known) l u) at z)
+  shut x m k j l u (unlocked r d z aim) = k .felt r (rw (only map F (D .known) l u) at z)
   shut x m k j l u (lifeCycle r t e) =
       let q : n ≡ numberOfKind map kind.LifeCycle = sym (only map F (D .known) l u) ∙ e in
       true-not-false (D .direct) (rw (← q) at (life-cycle-partition map F .closed))

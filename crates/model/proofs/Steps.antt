@@ -17,6 +17,7 @@ use Rattle.model.specs.declared.Answer.the-variants.{WrongLength, Invali
 use Rattle.model.specs.declared.Command.{Command}
 use Rattle.model.specs.declared.Command.the-variants.{Read, Write, FrontRead, Digest, ReadLock, Transition, PowerUp}
 use Rattle.model.specs.Lent.{Lent, Machine, Primitives, rightLengths}
+use Rattle.model.specs.Acts.{Performed, perform}
 use Rattle.model.specs.Commands.{readyAct}
 use Rattle.model.specs.PowerUp.{Waking, fails, wakes, wokenCopy}
 use Rattle.model.specs.Step.{Step, unchanged, performed, act, powerUp, obey, step, after}
@@ -29,22 +30,39 @@ module _ (prims : Primitives) (map : Map) where
   after-append [] ys m = refl
   after-append (x ∷ xs) ys m = after-append xs ys (step prims map x m .result .machine)
 
-  obey-all : (Q : Step → Type 0) (x : Command) (m : Machine) → Q (powerUp prims map m) → Q (act prims map x m) → Q (obey prims map x m)
+  -- what the act of a command comes to
+  abbrev pub outcome : Command → Machine → Performed
+  outcome x m = perform (readyAct prims map m x) (m .lent .copy) (m .lent .cells)
+
+  -- a command is power-up or an act
+  by-obeying : {X : Type 0} (x : Command) → (x ≡ PowerUp → X) → (((m : Machine) → obey prims map x m ≡ act prims map x m) → X) → X
   unfolding obey
-  obey-all Q (Read a) m h f = f
-  obey-all Q (Write a value) m h f = f
-  obey-all Q (FrontRead a) m h f = f
-  obey-all Q (Digest a) m h f = f
-  obey-all Q (ReadLock number) m h f = f
-  obey-all Q (Transition target high low) m h f = f
-  obey-all Q PowerUp m h f = h
+  by-obeying (Read a) f g = g (λ m. refl)
+  by-obeying (Write a value) f g = g (λ m. refl)
+  by-obeying (FrontRead a) f g = g (λ m. refl)
+  by-obeying (Digest a) f g = g (λ m. refl)
+  by-obeying (ReadLock number) f g = g (λ m. refl)
+  by-obeying (Transition target high low) f g = g (λ m. refl)
+  by-obeying PowerUp f g = f refl
+
+  pub obeys-act : (x : Command) (m : Machine) → (x ≡ PowerUp → ⊥) → obey prims map x m ≡ act prims map x m
+  obeys-act x m n = by-obeying x (λ e. absurd (n e)) (λ e. e m)
+
+  pub obey-both : (Q : Step → Step → Type 0) (x : Command) (m n : Machine)
+      → Q (powerUp prims map m) (powerUp prims map n) → Q (act prims map x m) (act prims map x n) → Q (obey prims map x m) (obey prims map x n)
+  obey-both Q x m n h f = by-obeying x (λ e. rw e (unfold obey in h)) (λ e. rw (e m, e n) f)
+
+  -- what holds of a refusal and of the command obeyed
+  pub step-both : (Q : Step → Type 0) (x : Command) (m : Machine) → ((answer : Answer) → Q (unchanged answer m)) → Q (obey prims map x m) → Q (step prims map x m)
+  unfolding step
+  step-both Q x m u h =
+      if-both Q (not (rightLengths map (m .lent))) _ _ (λ e. u WrongLength)
+      (λ e. if-both Q (not (validConstants (m .lent .constants))) _ _ (λ e. u InvalidConstants) (λ e. h))
 
   -- what holds of a refusal, of a power-up and of an act holds of every command
-  pub step-all : (Q : Step → Type 0) (x : Command) (m : Machine) → ((answer : Answer) → Q (unchanged answer m)) → Q (powerUp prims map m) → Q (act prims map x m) → Q (step prims map x m)
-  unfolding step
-  step-all Q x m u h f =
-      if-both Q (not (rightLengths map (m .lent))) _ _ (λ e. u WrongLength)
-      (λ e. if-both Q (not (validConstants (m .lent .constants))) _ _ (λ e. u InvalidConstants) (λ e. obey-all Q x m h f))
+  pub step-all : (Q : Step → Type 0) (x : Command) (m : Machine)
+      → ((answer : Answer) → Q (unchanged answer m)) → Q (powerUp prims map m) → Q (act prims map x m) → Q (step prims map x m)
+  step-all Q x m u h f = step-both Q x m u (obey-both (λ s _. Q s) x m m h f)
 
   -- with right lengths and valid constants the command is obeyed
   pub step-obeys : (x : Command) (m : Machine) → Right map m → step prims map x m ≡ obey prims map x m
@@ -107,7 +125,8 @@ module _ (prims : Primitives) (map : Map) where
   pub act-right : (x : Command) (m : Machine) → Right map m → Right map (act prims map x m .result .machine)
   unfolding act performed
   act-right x m r =
-      record { lengths = right-again m r _ (m .lent .copy) (perform-length _ (m .lent .copy) (m .lent .cells) ∙ cells-length m r) (copy-length m r); valid = r .valid; words = r .words }
+      let same = perform-length _ (m .lent .copy) (m .lent .cells) ∙ cells-length m r in
+      record { lengths = right-again m r _ (m .lent .copy) same (copy-length m r); valid = r .valid; words = r .words }
 
   pub step-right : (x : Command) (m : Machine) → Right map m → Right map (step prims map x m .result .machine)
   unfolding unchanged
