@@ -37,7 +37,7 @@ use Rattle.model.specs.Lent.{Machine, Primitives, digestStart, digestFin
 use Rattle.model.specs.Acts.{stay, turned, Act, say, Performed, afterProgram, noting, perform}
 use Rattle.model.specs.Commands.{granule, storedDigest, dataWords, computedDigest, unscrambled, counterAt, writeAct, readAct, frontReadAct, digestAct, readLockAct, transitionAct, tokenAct, lockedTokenAct, entryAct, moveAct, commandAct, readyAct}
 use Rattle.model.specs.PowerUp.{digests, Waking, fails, wakes, waking, wakingOf, copyWord, wokenCopy, wokenSession, wokenAnswer}
-use Rattle.model.specs.Step.{Step, performed, act, powerUp, step, after, answers}
+use Rattle.model.specs.Step.{Step, performed, act, powerUp, step, after, answers, machineAfter}
 use Rattle.model.specs.Terms.{Right, Digested, Agree, Matched, Hidden, Alike}
 use Rattle.model.proofs.Acts.{Within, says, programs, compares, within-map}
 use Rattle.model.proofs.Frame.{Open, unlocked, lifeCycle, not-locked, life-words, life-closed, life-same, act-within}
@@ -353,7 +353,7 @@ module _ (prims : Primitives) (map : Map) (F : fit map ≡ true) (H : ℕ → Ty
   after-pair [] m n h g = (refl, h)
   after-pair (x ∷ l) m n h g =
       let o = step-pair x m n h (g .0) (g .1) in
-      let r = after-pair l (step prims map x m .result .machine) (step prims map x n .result .machine) (o .pair) (g .2) in
+      let r = after-pair l (machineAfter prims map x m) (machineAfter prims map x n) (o .pair) (g .2) in
       (ap₂ (λ (a : Answer) (rest : List Answer). a ∷ rest) (o .answer) (r .0), r .1)
 
 -- ---- the theorem
@@ -368,5 +368,5 @@ unfolding answers after Matched
 two-chips prims map F m n r r′ e h l g =
     let H = Hidden map (m .lent .cells) (n .lent .cells) in
     let o = first-pair prims map F H (λ p v. v .known) (λ p v. v .secret) m n r r′ (record { at = λ j q. h .at j (λ w. q .shows (w .hidden) (w .isData)) }) e (λ p v. v .nonzero) (g .1) in
-    let t = after-pair prims map F H (λ p v. v .known) (λ p v. v .secret) l (step prims map PowerUp m .result .machine) (step prims map PowerUp n .result .machine) (o .pair) (g .2) in
+    let t = after-pair prims map F H (λ p v. v .known) (λ p v. v .secret) l (machineAfter prims map PowerUp m) (machineAfter prims map PowerUp n) (o .pair) (g .2) in
     (ap₂ (λ (a : Answer) (rest : List Answer). a ∷ rest) (o .answer) (t .0), t .1 .records, record { at = λ j q. t .1 .fuses .at j (record { shows = λ v u. q (record { hidden = v; isData = u }) }) })

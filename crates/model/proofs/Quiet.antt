@@ -4,7 +4,7 @@ use mathlib.Core.List.{List, [], _∷_}
 use Rattle.partitions.specs.Map.{Map}
 use Rattle.model.specs.declared.Command.{Command}
 use Rattle.model.specs.Lent.{Machine, Primitives}
-use Rattle.model.specs.Step.{Step, unchanged, performed, act, step, after}
+use Rattle.model.specs.Step.{Step, unchanged, performed, act, after, machineAfter}
 use Rattle.model.specs.Beyond.{quiet, Quiet}
 use Rattle.model.proofs.Steps.{obeys-act, step-both}
 use Rattle.model.proofs.Locks.{turned-sensed}
@@ -14,7 +14,7 @@ module _ (prims : Primitives) (map : Map) where
   abbrev Unsensed : Machine → Machine → Type 0
   Unsensed m m′ = (m′ .lent .copy ≡ m .lent .copy) × (m′ .session .sensed ≡ m .session .sensed)
 
-  step-unsensed : (x : Command) (m : Machine) → quiet x → Unsensed m (step prims map x m .result .machine)
+  step-unsensed : (x : Command) (m : Machine) → quiet x → Unsensed m (machineAfter prims map x m)
   unfolding unchanged act performed
   step-unsensed x m q =
       step-both prims map (λ (s : Step). Unsensed m (s .result .machine)) x m (λ answer. (refl, refl))
@@ -25,5 +25,5 @@ module _ (prims : Primitives) (map : Map) where
   after-unsensed m [] q = (refl, refl)
   after-unsensed m (x ∷ l) q =
       let s = step-unsensed x m (q .0) in
-      let t = after-unsensed (step prims map x m .result .machine) l (q .1) in
+      let t = after-unsensed (machineAfter prims map x m) l (q .1) in
       (t .0 ∙ s .0, t .1 ∙ s .1)

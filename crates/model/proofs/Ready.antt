@@ -28,10 +28,10 @@ use Rattle.model.specs.Lent.{Machine, Primitives}
 use Rattle.model.specs.Acts.{Turn, stay, lock, halt, die, turned, Act}
 use Rattle.model.specs.Commands.{storedDigest, writeAct, readAct, frontReadAct, digestAct, readLockAct, moveAct, lockedTokenAct, tokenAct, entryAct, transitionAct, commandAct, readyAct}
 use Rattle.model.specs.PowerUp.{Waking, wakes, waking, wakingOf, lifeCycleWaking, wokenSession, wokenAnswer}
-use Rattle.model.specs.Step.{performed, act, powerUp, step, after}
+use Rattle.model.specs.Step.{performed, act, powerUp, step, after, machineAfter, answerTo}
 use Rattle.model.specs.Terms.{Right, Digested, staysReady, Lasts}
 use Rattle.model.proofs.Acts.{Gives, perform-gives, gives-if}
-use Rattle.model.proofs.Steps.{obeys-act, step-obeys, step-up, up-right, act-right}
+use Rattle.model.proofs.Steps.{obeys-act, step-obeys, step-up, up-right, act-right, acted, poweredUp}
 use Rattle.model.proofs.Locks.{turned-sensed, sensed-stored}
 
 -- a turn that leaves the phase
@@ -104,9 +104,9 @@ module _ (prims : Primitives) (map : Map) (m : Machine) where
 
 -- a command after which Ready lasts is an act
 pub step-act : (prims : Primitives) (map : Map) (x : Command) (m : Machine) → Right map m
-    → staysReady x (step prims map x m .result .answer) → step prims map x m ≡ act prims map x m
+    → staysReady x (answerTo prims map x m) → step prims map x m ≡ act prims map x m
 step-act prims map x m r h =
-    step-obeys prims map x m r ∙ obeys-act prims map x m (λ e. subst (λ (y : Command). staysReady y (step prims map x m .result .answer)) e h)
+    step-obeys prims map x m r ∙ obeys-act prims map x m (λ e. subst (λ (y : Command). staysReady y (answerTo prims map x m)) e h)
 
 pub record Fresh (map : Map) (c₀ : List ℕ) (m : Machine) : Type 0 where
   pub awake : isReady (m .session .phase) ≡ true
@@ -138,7 +138,7 @@ module _ (prims : Primitives) (map : Map) (F : fit map ≡ true) where
   unfolding wokenSession isReady sensedAt
   woke-fresh m state count = (refl, λ n d. sensed-stored prims map F n d (m .lent))
 
-  up-fresh : (m : Machine) → Right map m → codeOf (powerUp prims map m .result .answer) ≡ 0x00 → Fresh map (m .lent .cells) (powerUp prims map m .result .machine)
+  up-fresh : (m : Machine) → Right map m → codeOf (powerUp prims map m .result .answer) ≡ 0x00 → Fresh map (m .lent .cells) (poweredUp prims map m)
   up-fresh m r e = record { awake = unfold powerUp in (woke .0); felt = unfold powerUp in (woke .1); right = up-right prims map m r }
     where
       Q : Waking → Type 0
@@ -148,10 +148,10 @@ module _ (prims : Primitives) (map : Map) (F : fit map ≡ true) where
       woke : Q (waking prims map (m .lent))
       woke = up-wakes m Q (woke-fresh m) e
 
-  pub first-fresh : (m : Machine) → Right map m → codeOf (step prims map PowerUp m .result .answer) ≡ 0x00 → Fresh map (m .lent .cells) (step prims map PowerUp m .result .machine)
-  first-fresh m r = rw (step-up prims map m r) (up-fresh m r)
+  pub first-fresh : (m : Machine) → Right map m → codeOf (answerTo prims map PowerUp m) ≡ 0x00 → Fresh map (m .lent .cells) (machineAfter prims map PowerUp m)
+  first-fresh m r = rw (step-up prims map m r, machineAfter, answerTo) (up-fresh m r)
 
-  act-fresh : (c₀ : List ℕ) (x : Command) (m : Machine) → staysReady x (act prims map x m .result .answer) → Fresh map c₀ m → Fresh map c₀ (act prims map x m .result .machine)
+  act-fresh : (c₀ : List ℕ) (x : Command) (m : Machine) → staysReady x (act prims map x m .result .answer) → Fresh map c₀ m → Fresh map c₀ (acted prims map x m)
   unfolding act performed sensedAt
   act-fresh c₀ x m h f = record {
     awake = rw (calm-phase _ (m .session) (perform-gives (act-calm prims map m x) (m .lent .copy) (m .lent .cells) h)) (f .awake);
@@ -159,10 +159,10 @@ module _ (prims : Primitives) (map : Map) (F : fit map ≡ true) where
     right = act-right prims map x m (f .right);
   }
 
-  pub step-fresh : (c₀ : List ℕ) (x : Command) (m : Machine) → staysReady x (step prims map x m .result .answer) → Fresh map c₀ m → Fresh map c₀ (step prims map x m .result .machine)
-  step-fresh c₀ x m h f = let e = step-act prims map x m (f .right) h in rw e (act-fresh c₀ x m (rw e at h) f)
+  pub step-fresh : (c₀ : List ℕ) (x : Command) (m : Machine) → staysReady x (answerTo prims map x m) → Fresh map c₀ m → Fresh map c₀ (machineAfter prims map x m)
+  step-fresh c₀ x m h f = let e = step-act prims map x m (f .right) h in rw (e, machineAfter) (act-fresh c₀ x m (rw (e, answerTo) at h) f)
 
   pub after-fresh : (c₀ : List ℕ) (l : List Command) (m : Machine) → Lasts prims map l m → Fresh map c₀ m → Fresh map c₀ (after prims map l m)
   unfolding Lasts after
   after-fresh c₀ [] m h f = f
-  after-fresh c₀ (x ∷ l) m h f = after-fresh c₀ l (step prims map x m .result .machine) (h .1) (step-fresh c₀ x m (h .0) f)
+  after-fresh c₀ (x ∷ l) m h f = after-fresh c₀ l (machineAfter prims map x m) (h .1) (step-fresh c₀ x m (h .0) f)

@@ -43,12 +43,12 @@ use Rattle.model.specs.Lent.{Lent, Machine, Primitives}
 use Rattle.model.specs.Acts.{Turn, stay, lock, halt, die, turned, Act, say, program, compare, Performed, afterProgram, noting, perform}
 use Rattle.model.specs.Commands.{counterAt, stateAt, moveAct, lockedTokenAct, tokenAct, entryAct, transitionAct, commandAct, readyAct}
 use Rattle.model.specs.PowerUp.{Waking, waking, wakingOf, lifeCycleWaking, verdictOf, lifeCycleIn, wokenSession}
-use Rattle.model.specs.Step.{Step, unchanged, performed, act, powerUp, obey, step, after}
+use Rattle.model.specs.Step.{Step, unchanged, performed, act, powerUp, obey, step, after, machineAfter, answerTo}
 use Rattle.model.specs.Terms.{Right}
 use Rattle.model.specs.Beyond.{Course, stays, spends, moves, Rising}
 use Rattle.model.proofs.Acts.{perform-frame}
 use Rattle.model.proofs.Frame.{Open, unlocked, lifeCycle, isTransition, life-words, life-closed, life-same, act-within}
-use Rattle.model.proofs.Steps.{after-append, step-all, step-obeys, step-up, step-right, after-right, cells-length}
+use Rattle.model.proofs.Steps.{after-append, step-all, step-obeys, step-up, step-right, after-right, cells-length, acted, poweredUp}
 use Rattle.model.proofs.Locks.{turned-ready}
 
 -- while the phase is Ready the cells hold the record's state and count
@@ -178,15 +178,15 @@ module _ (prims : Primitives) (map : Map) (F : fit map ≡ true) where
       if-both (λ (w : Waking). isReady (wokenSession prims map w l .phase) ≡ true → Valid state count ≡ Valid (wokenSession prims map w l .state) (wokenSession prims map w l .count))
       _ _ _ (λ t e. absurd (true-not-false e refl)) (λ t e. refl)
 
-  up-life : (m : Machine) → lifeCycleIn prims map (powerUp prims map m .result .machine .lent) ≡ lifeCycleIn prims map (m .lent)
+  up-life : (m : Machine) → lifeCycleIn prims map (poweredUp prims map m .lent) ≡ lifeCycleIn prims map (m .lent)
   unfolding powerUp
   up-life m = life-same prims map F (m .lent .cells) (m .lent .cells) _ (m .lent .copy) (m .lent .constants) (λ j l u. refl)
 
-  up-living : (m : Machine) → Living prims map (powerUp prims map m .result .machine)
+  up-living : (m : Machine) → Living prims map (poweredUp prims map m)
   up-living m = record { holds = λ e. up-life m ∙ (unfold powerUp waking in (woken-living (verdictOf prims map (m .lent)) (lifeCycleIn prims map (m .lent)) (m .lent) e)) }
 
   -- a command that is no transition leaves the life cycle words
-  others-life : (x : Command) (m : Machine) → isTransition x ≡ false → lifeCycleIn prims map (act prims map x m .result .machine .lent) ≡ lifeCycleIn prims map (m .lent)
+  others-life : (x : Command) (m : Machine) → isTransition x ≡ false → lifeCycleIn prims map (acted prims map x m .lent) ≡ lifeCycleIn prims map (m .lent)
   unfolding act performed
   others-life x m n =
       life-same prims map F _ (m .lent .cells) _ _ (m .lent .constants) (λ j lo hi. perform-frame (act-within prims map F m x) (m .lent .copy) (m .lent .cells) j (shut j lo hi))
@@ -255,12 +255,12 @@ module _ (prims : Primitives) (map : Map) (F : fit map ≡ true) where
   same-goes m s e l = record { course = rw e stays; living = l }
 
   -- an act that leaves the life cycle words
-  act-stays : (x : Command) (m : Machine) → Living prims map m → lifeCycleIn prims map (act prims map x m .result .machine .lent) ≡ lifeCycleIn prims map (m .lent)
+  act-stays : (x : Command) (m : Machine) → Living prims map m → lifeCycleIn prims map (acted prims map x m .lent) ≡ lifeCycleIn prims map (m .lent)
       → Goes m (act prims map x m)
   act-stays x m live same = same-goes m (act prims map x m) same (record { holds = λ e. same ∙ kept e })
     where
-      kept : isReady (act prims map x m .result .machine .session .phase) ≡ true
-          → lifeCycleIn prims map (m .lent) ≡ Valid (act prims map x m .result .machine .session .state) (act prims map x m .result .machine .session .count)
+      kept : isReady (acted prims map x m .session .phase) ≡ true
+          → lifeCycleIn prims map (m .lent) ≡ Valid (acted prims map x m .session .state) (acted prims map x m .session .count)
       kept = unfold act performed in (λ e. rw (turned-life _ _ .0, turned-life _ _ .1) (live .holds (turned-ready _ (m .session) e)))
 
   others-go : (x : Command) (m : Machine) → isTransition x ≡ false → Living prims map m → Goes m (act prims map x m)
@@ -276,10 +276,10 @@ module _ (prims : Primitives) (map : Map) (F : fit map ≡ true) where
       outcome = perform (readyAct prims map m x) (m .lent .copy) (m .lent .cells)
 
       -- a turn that leaves Ready leaves nothing to hold
-      stopped : stops (outcome .turn) → Living prims map (act prims map x m .result .machine)
+      stopped : stops (outcome .turn) → Living prims map (acted prims map x m)
       stopped h = record { holds = unfold act performed in (λ e. absurd (h (m .session) e)) }
 
-      lent-is : (c : List ℕ) → outcome .cells ≡ c → act prims map x m .result .machine .lent ≡ record { cells = c; copy = m .lent .copy; constants = m .lent .constants }
+      lent-is : (c : List ℕ) → outcome .cells ≡ c → acted prims map x m .lent ≡ record { cells = c; copy = m .lent .copy; constants = m .lent .constants }
       lent-is c e = unfold act performed in (rw e)
 
       go : Moved prims map m target outcome → Goes m (act prims map x m)
@@ -320,29 +320,29 @@ module _ (prims : Primitives) (map : Map) (F : fit map ≡ true) where
   after-goes [] m r live = (stays, live)
   after-goes (x ∷ l) m r live =
       let s = step-goes x m r live in
-      let t = after-goes l (step prims map x m .result .machine) (step-right prims map x m r) (s .living) in
+      let t = after-goes l (machineAfter prims map x m) (step-right prims map x m r) (s .living) in
       (course-trans (s .course) (t .0), t .1)
 
   -- ---- the theorems
 
-  first-living : (m : Machine) → Right map m → Living prims map (step prims map PowerUp m .result .machine)
-  first-living m r = rw (step-up prims map m r) (up-living m)
+  first-living : (m : Machine) → Right map m → Living prims map (machineAfter prims map PowerUp m)
+  first-living m r = rw (step-up prims map m r, machineAfter) (up-living m)
 
   pub since-living : (m : Machine) → Right map m → (l : List Command) → Living prims map (after prims map (PowerUp ∷ l) m)
   unfolding after
-  since-living m r l = after-goes l (step prims map PowerUp m .result .machine) (step-right prims map PowerUp m r) (first-living m r) .1
+  since-living m r l = after-goes l (machineAfter prims map PowerUp m) (step-right prims map PowerUp m r) (first-living m r) .1
 
   moved-not-four : (m : Machine) (target : ℕ) {p : Performed} → Moved prims map m target p → codeOf (p .answer) ≡ 0x04 → ⊥
   moved-not-four m target (still e f) = f
   moved-not-four m target (spent v l e h f) = f
   moved-not-four m target (reached v l a e h f) = f
 
-  living-not-four : (m : Machine) → Right map m → Living prims map m → (target high low : ℕ) → codeOf (step prims map (Transition target high low) m .result .answer) ≡ 0x04 → ⊥
+  living-not-four : (m : Machine) → Right map m → Living prims map m → (target high low : ℕ) → codeOf (answerTo prims map (Transition target high low) m) ≡ 0x04 → ⊥
   unfolding obey act performed
-  living-not-four m r live target high low = rw (step-obeys prims map (Transition target high low) m r) (moved-not-four m target (transition-moves m r live target high low))
+  living-not-four m r live target high low = rw (step-obeys prims map (Transition target high low) m r, answerTo) (moved-not-four m target (transition-moves m r live target high low))
 
   pub never-four : (m : Machine) → Right map m → (l : List Command) (target high low : ℕ)
-      → codeOf (step prims map (Transition target high low) (after prims map (PowerUp ∷ l) m) .result .answer) ≡ 0x04 → ⊥
+      → codeOf (answerTo prims map (Transition target high low) (after prims map (PowerUp ∷ l) m)) ≡ 0x04 → ⊥
   never-four m r l target high low =
       living-not-four (after prims map (PowerUp ∷ l) m) (after-right prims map (PowerUp ∷ l) m r) (since-living m r l) target high low
 

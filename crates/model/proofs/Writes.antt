@@ -33,7 +33,7 @@ use Rattle.model.specs.Session.{sensedLocked, readLocked}
 use Rattle.model.specs.Lent.{Machine, Primitives, keyOf}
 use Rattle.model.specs.Acts.{stay, Act, say, Performed, afterProgram, perform}
 use Rattle.model.specs.Commands.{granule, storedDigest, scrambled, unscrambled, writeAct, readAct, commandAct, readyAct}
-use Rattle.model.specs.Step.{Step, unchanged, performed, act, powerUp, step, after}
+use Rattle.model.specs.Step.{Step, unchanged, performed, act, powerUp, step, after, machineAfter, answerTo}
 use Rattle.model.specs.Terms.{Right, Cipher, Digested, spares, storedWords, usedValue, Lasts, Spared, Allowed, TakesEffect}
 use Rattle.model.specs.Demand3.{Ready}
 use Rattle.model.proofs.Acts.{after-both, perform-frame, not-done}
@@ -199,8 +199,8 @@ module _ (prims : Primitives) (C : Cipher prims) (map : Map) (F : fit map ≡ tr
     word-stays (Transition target high low) m sp j lo hi = aimless (Transition target high low) m j lo hi (λ z. z)
     word-stays PowerUp m sp j lo hi = aimless PowerUp m j lo hi (λ z. z)
 
-    step-stays : (x : Command) (m : Machine) → spares map a x (step prims map x m .result .answer)
-        → partAt (step prims map x m .result .machine .lent .cells) first count ≡ partAt (m .lent .cells) first count
+    step-stays : (x : Command) (m : Machine) → spares map a x (answerTo prims map x m)
+        → partAt (machineAfter prims map x m .lent .cells) first count ≡ partAt (m .lent .cells) first count
     unfolding unchanged powerUp act performed
     step-stays x m =
         step-all prims map (λ (s : Step). spares map a x (s .result .answer) → partAt (s .result .machine .lent .cells) first count ≡ partAt (m .lent .cells) first count) x m
@@ -211,7 +211,7 @@ module _ (prims : Primitives) (C : Cipher prims) (map : Map) (F : fit map ≡ tr
         → partAt (after prims map l m .lent .cells) first count ≡ partAt (m .lent .cells) first count
     unfolding Spared after
     after-stays [] m sp = refl
-    after-stays (x ∷ l) m sp = after-stays l (step prims map x m .result .machine) (sp .1) ∙ step-stays x m (sp .0)
+    after-stays (x ∷ l) m sp = after-stays l (machineAfter prims map x m) (sp .1) ∙ step-stays x m (sp .0)
 
     -- ---- it reads back
 
@@ -276,9 +276,9 @@ module _ (prims : Primitives) (C : Cipher prims) (map : Map) (F : fit map ≡ tr
 
         read-back : (c₀ : List ℕ) → Fresh map c₀ m → storedDigest (partitionAt map a) c₀ ≡ 0
             → (inDigest p b ≡ false → readLocked (m .session) (numberAt map b) ≡ false)
-            → step prims map (Read b) m .result .answer ≡ Done (usedValue map a value)
+            → answerTo prims map (Read b) m ≡ Done (usedValue map a value)
         unfolding act performed perform
-        read-back c₀ f z k = rw (step-act prims map (Read b) m r tt, read-act c₀ f z k)
+        read-back c₀ f z k = rw (step-act prims map (Read b) m r tt, answerTo, read-act c₀ f z k)
 
     -- on any chip, a read that answers 0 answers the data used
     read-shows : (m : Machine) → Right map m → (value : ℕ) → value < 2 ^ 64 → partAt (m .lent .cells) first count ≡ storedWords prims map (m .lent .constants) a value
@@ -295,9 +295,9 @@ module _ (prims : Primitives) (C : Cipher prims) (map : Map) (F : fit map ≡ tr
         Q x = perform x (m .lent .copy) (m .lent .cells) .answer ≡ Done shown → shown ≡ usedValue map a value
 
     read-lasts : (m : Machine) → Right map m → (value : ℕ) → value < 2 ^ 64 → partAt (m .lent .cells) first count ≡ storedWords prims map (m .lent .constants) a value
-        → (b shown : ℕ) → firstWord (partitionAt map b) b ≡ first → step prims map (Read b) m .result .answer ≡ Done shown → shown ≡ usedValue map a value
+        → (b shown : ℕ) → firstWord (partitionAt map b) b ≡ first → answerTo prims map (Read b) m ≡ Done shown → shown ≡ usedValue map a value
     unfolding act performed
-    read-lasts m r value v held b shown same = rw (step-act prims map (Read b) m r tt) (read-shows m r value v held b shown same)
+    read-lasts m r value v held b shown same = rw (step-act prims map (Read b) m r tt, answerTo) (read-shows m r value v held b shown same)
 
   -- ---- the theorems: any commands l₀, a power-up that answers 0, commands l₁ while Ready lasts, the write, then l₂
 
@@ -307,7 +307,7 @@ module _ (prims : Primitives) (C : Cipher prims) (map : Map) (F : fit map ≡ tr
     found = after prims map l₀ m
 
     abbrev woken : Machine
-    woken = step prims map PowerUp found .result .machine
+    woken = machineAfter prims map PowerUp found
 
     abbrev awake : Machine
     awake = after prims map l₁ woken
@@ -347,12 +347,12 @@ module _ (prims : Primitives) (C : Cipher prims) (map : Map) (F : fit map ≡ tr
       -- while Ready lasts, every read of the granule answers 0 and the data used
       pub reads-back : Lasts prims map l₂ (s .result .machine) → (b : ℕ) → b < limit map → firstWord (partitionAt map b) b ≡ firstWord (partitionAt map a) a
           → (inDigest (partitionAt map b) b ≡ false → readLocked (m₂ .session) (numberAt map b) ≡ false)
-          → step prims map (Read b) m₂ .result .answer ≡ Done (usedValue map a value)
+          → answerTo prims map (Read b) m₂ ≡ Done (usedValue map a value)
       reads-back lasts b low same =
           let f = after-fresh prims map F c₀ l₂ (s .result .machine) lasts (step-fresh prims map F c₀ (Write a value) m₁ tt fresh) in
           read-back a (al .below) (al .direct) (al .notDigest) b low same m₂ still-right value v still-held c₀ f (al .unlocked)
 
       -- and ever after, every read of the granule that answers 0 answers the data used
       pub reads-last : (b shown : ℕ) → firstWord (partitionAt map b) b ≡ firstWord (partitionAt map a) a
-          → step prims map (Read b) m₂ .result .answer ≡ Done shown → shown ≡ usedValue map a value
+          → answerTo prims map (Read b) m₂ ≡ Done shown → shown ≡ usedValue map a value
       reads-last = read-lasts a (al .below) (al .direct) (al .notDigest) m₂ still-right value v still-held

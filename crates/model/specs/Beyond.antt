@@ -16,7 +16,7 @@ use Rattle.model.specs.declared.Command.the-variants.{Read, Write, Front
 use Rattle.model.specs.Lent.{Machine, Primitives}
 use Rattle.model.specs.Commands.{granule, storedDigest}
 use Rattle.model.specs.PowerUp.{lifeCycleIn}
-use Rattle.model.specs.Step.{step, after}
+use Rattle.model.specs.Step.{step, after, machineAfter, answerTo}
 use Rattle.model.specs.Terms.{Right, Digested, Spared, Allowed, usedValue}
 use Rattle.model.specs.Demand3.{Ready}
 
@@ -46,17 +46,17 @@ module _ (prims : Primitives) (map : Map) where
     -- granule that answers 0 answers the data used, while no other write to the granule answers 0
     pub lasting : (m : Machine) → Right map m → (l₀ l₁ : List Command) → Ready prims map m l₀ l₁ → (a value : ℕ) → value < 2 ^ 64
         → let m₀ = after prims map l₀ m in
-        let m₁ = after prims map l₁ (step prims map PowerUp m₀ .result .machine) in
+        let m₁ = after prims map l₁ (machineAfter prims map PowerUp m₀) in
         let s = step prims map (Write a value) m₁ in
         Allowed prims map (m .lent .constants) (m₀ .lent .cells) (m₁ .lent .cells) a value
         → (l₂ : List Command) → Spared prims map a l₂ (s .result .machine)
         → (b shown : ℕ) → firstWord (partitionAt map b) b ≡ firstWord (partitionAt map a) a
-        → step prims map (Read b) (after prims map l₂ (s .result .machine)) .result .answer ≡ Done shown → shown ≡ usedValue map a value
+        → answerTo prims map (Read b) (after prims map l₂ (s .result .machine)) ≡ Done shown → shown ≡ usedValue map a value
     -- once a power-up has found a partition with front reads (HW_CFG, which begins with the DEVICE_ID) locked, every front read of it that ever
     -- answers 0 answers the words that were stored then
     pub device : (m : Machine) → Right map m → (n : ℕ) → Digested map n → rightsOf (partition map n .kind) .front ≡ true → (l₁ l₂ : List Command)
         → (storedDigest (partition map n) (after prims map l₁ m .lent .cells) ≡ 0 → ⊥)
-        → (a value : ℕ) → numberAt map a ≡ n → step prims map (FrontRead a) (after prims map (l₁ ++ PowerUp ∷ l₂) m) .result .answer ≡ Done value
+        → (a value : ℕ) → numberAt map a ≡ n → answerTo prims map (FrontRead a) (after prims map (l₁ ++ PowerUp ∷ l₂) m) ≡ Done value
         → value ≡ granule (partition map n) (after prims map l₁ m .lent .cells) a
     -- from a power-up on, what the life cycle words decode to only goes along the table, a stroke at a time
     pub courses : (m : Machine) → Right map m → (l₁ l₂ : List Command)
