@@ -23,10 +23,9 @@ use Rattle.partitions.specs.declared.Kind.the-variants as kind
 use Rattle.partitions.specs.declared.Partition.{Partition}
 use Rattle.partitions.specs.Fitness.{fit}
 use Rattle.partitions.proofs.KindRights.{scrambled-direct, front-hardware, front-not-scrambled, lockable-not-hardware}
-use Rattle.partitions.proofs.Map.{inside, partition-fit, partition-word, life-cycle-partition}
+use Rattle.partitions.proofs.Map.{inside, partition-fit, partition-word}
 use Rattle.partitions.proofs.Granules.{granule-within, word-inside, word-number, digest-word}
 use Rattle.partitions.specs.Map.{Map, rightsOf, numberAt, partition, partitionAt, limit, inDigest, firstWord, wordCount, numberOfKind}
-use Rattle.life_cycle.specs.Words.{decoded}
 use Rattle.model.specs.declared.Answer.{Answer}
 use Rattle.model.specs.declared.Answer.the-variants.{Done}
 use Rattle.model.specs.declared.Session.{Session}
@@ -35,13 +34,13 @@ use Rattle.model.specs.declared.Command.the-variants.{Read, Write, Front
 use Rattle.model.specs.Session.{isReady, sensedAt, sensedLocked}
 use Rattle.model.specs.Lent.{Machine, Primitives, digestStart, digestFinal}
 use Rattle.model.specs.Acts.{stay, turned, Act, say, Performed, afterProgram, noting, perform}
-use Rattle.model.specs.Commands.{granule, storedDigest, dataWords, computedDigest, unscrambled, counterAt, stateAt, writeAct, readAct, frontReadAct, digestAct, readLockAct, transitionAct, tokenAct, lockedTokenAct, entryAct, moveAct, commandAct, readyAct}
-use Rattle.model.specs.PowerUp.{digests, Waking, fails, wakes, waking, wakingOf, lifeCycleIn, copyWord, wokenCopy, wokenSession, wokenAnswer}
-use Rattle.model.specs.Step.{Step, performed, act, powerUp, obey, step, after, answers}
+use Rattle.model.specs.Commands.{granule, storedDigest, dataWords, computedDigest, unscrambled, counterAt, writeAct, readAct, frontReadAct, digestAct, readLockAct, transitionAct, tokenAct, lockedTokenAct, entryAct, moveAct, commandAct, readyAct}
+use Rattle.model.specs.PowerUp.{digests, Waking, fails, wakes, waking, wakingOf, copyWord, wokenCopy, wokenSession, wokenAnswer}
+use Rattle.model.specs.Step.{Step, performed, act, powerUp, step, after, answers, machineAfter}
 use Rattle.model.specs.Terms.{Right, Digested, Agree, Matched, Hidden, Alike}
 use Rattle.model.proofs.Acts.{Within, says, programs, compares, within-map}
-use Rattle.model.proofs.Frame.{Open, unlocked, lifeCycle, not-locked, life-words, act-within}
-use Rattle.model.proofs.Steps.{step-obeys, step-up, cells-length, up-right, act-right}
+use Rattle.model.proofs.Frame.{Open, unlocked, lifeCycle, not-locked, life-words, life-closed, life-same, act-within}
+use Rattle.model.proofs.Steps.{obey-both, step-obeys, step-up, cells-length, up-right, act-right}
 use Rattle.model.proofs.Locks.{Locked, up-locked, act-locked}
 
 -- ---- cells that are equal where P holds
@@ -232,23 +231,17 @@ module _ (prims : Primitives) (map : Map) (F : fit map ≡ true) (H : ℕ → Ty
       let q = digest-word map F l e lo hi in
       record { shows = λ v u. true-not-false (rw (q .0) (q .1)) u }
 
+  closed-shown : (j : ℕ) → numberAt map (2 * j) ≡ numberOfKind map kind.LifeCycle → Shown map H j
+  unfolding partitionAt
+  closed-shown j e = record { shows = λ v u. true-not-false (scrambled-direct _ (secret _ v)) (life-closed prims map F j e) }
+
   stored-alike : (c d : List ℕ) → Same (Shown map H) c d → (n : ℕ) → n < length map → rightsOf (partition map n .kind) .direct ≡ true
       → storedDigest (partition map n) c ≡ storedDigest (partition map n) d
   unfolding storedDigest
   stored-alike c d h n l e = ap numberOf (part-same c d _ 4 (λ j lo hi. h .at j (digest-shows n l e j lo hi)))
 
-  life-shut : (j : ℕ) → numberAt map (2 * j) ≡ numberOfKind map kind.LifeCycle → rightsOf (partition map (numberAt map (2 * j)) .kind) .direct ≡ false
-  life-shut j e = rw e (life-cycle-partition map F .closed)
-
   life-shown : (j : ℕ) → counterAt prims map ≤ j → j < counterAt prims map + 44 → Shown map H j
-  life-shown j lo hi = record { shows = λ v u. true-not-false (scrambled-direct _ (secret _ v)) (life-shut j (life-words prims map F j lo hi)) }
-
-  life-same : (c d k k′ t : List ℕ) → Same (Shown map H) c d
-      → lifeCycleIn prims map (record { cells = c; copy = k; constants = t }) ≡ lifeCycleIn prims map (record { cells = d; copy = k′; constants = t })
-  unfolding lifeCycleIn stateAt
-  life-same c d k k′ t h =
-      ap₂ (λ (x y : List ℕ). decoded t x y) (part-same c d _ 24 (λ j lo hi. h .at j (life-shown j lo (omega arith))))
-      (part-same c d _ 20 (λ j lo hi. h .at j (life-shown j (omega arith) (omega arith))))
+  life-shown j lo hi = closed-shown j (life-words prims map F j lo hi)
 
   copies-alike : (t c d : List ℕ) → Same (Shown map H) c d
       → Same (FrontWord map H) (listed (copyWord prims map t c) 0 (limit map / 2)) (listed (copyWord prims map t d) 0 (limit map / 2))
@@ -277,7 +270,7 @@ module _ (prims : Primitives) (map : Map) (F : fit map ≡ true) (H : ℕ → Ty
       → SamePair (powerUp prims map (made c k t s)) (powerUp prims map (made d k′ t s′))
   unfolding powerUp waking
   up-made c d k k′ t s s′ r r′ h z g =
-      let e = ap₂ wakingOf (sym (g .0)) (sym (life-same c d k k′ t h)) in
+      let e = ap₂ wakingOf (sym (g .0)) (sym (life-same prims map F c d k k′ t (λ j lo hi. h .at j (life-shown j lo hi)))) in
       record {
         answer = ap (wokenAnswer prims map) (sym e);
         pair = record {
@@ -318,8 +311,8 @@ module _ (prims : Primitives) (map : Map) (F : fit map ≡ true) (H : ℕ → Ty
   shown-within x m n h = within-map go (act-within prims map F m x)
     where
       go : (j : ℕ) → Open map x (m .session) j → Shown map H j
-      go j (unlocked r d z) = record { shows = λ v u. h .locks _ v .felt r z }
-      go j (lifeCycle r t e) = record { shows = λ v u. true-not-false (scrambled-direct _ (secret _ v)) (life-shut j e) }
+      go j (unlocked r d z aim) = record { shows = λ v u. h .locks _ v .felt r z }
+      go j (lifeCycle r t e) = closed-shown j e
 
   act-pair : (x : Command) (m n : Machine) → Pair m n → Agree (act prims map x m .compared) (act prims map x n .compared) → SamePair (act prims map x m) (act prims map x n)
   unfolding act performed
@@ -340,20 +333,10 @@ module _ (prims : Primitives) (map : Map) (F : fit map ≡ true) (H : ℕ → Ty
         };
       })
 
-  obey-both : (Q : Step → Step → Type 0) (x : Command) (m n : Machine) → Q (powerUp prims map m) (powerUp prims map n) → Q (act prims map x m) (act prims map x n) → Q (obey prims map x m) (obey prims map x n)
-  unfolding obey
-  obey-both Q (Read a) m n h f = f
-  obey-both Q (Write a value) m n h f = f
-  obey-both Q (FrontRead a) m n h f = f
-  obey-both Q (Digest a) m n h f = f
-  obey-both Q (ReadLock number) m n h f = f
-  obey-both Q (Transition target high low) m n h f = f
-  obey-both Q PowerUp m n h f = h
-
   pub step-pair : (x : Command) (m n : Machine) → Pair m n → Agree (step prims map x m .compared) (step prims map x n .compared)
       → Agree (step prims map x m .verdicts) (step prims map x n .verdicts) → SamePair (step prims map x m) (step prims map x n)
   step-pair x m n h = rw (step-obeys prims map x m (h .right), step-obeys prims map x n (h .rightToo))
-      (obey-both (λ s u. Agree (s .compared) (u .compared) → Agree (s .verdicts) (u .verdicts) → SamePair s u) x m n
+      (obey-both prims map (λ s u. Agree (s .compared) (u .compared) → Agree (s .verdicts) (u .verdicts) → SamePair s u) x m n
       (λ a v. up-pair m n (h .right) (h .rightToo) (h .fuses) (h .constants) (λ p w. h .locks p w .burnt) v) (λ a v. act-pair x m n h a))
 
   pub after-pair : (l : List Command) (m n : Machine) → Pair m n → Matched prims map l m n
@@ -362,7 +345,7 @@ module _ (prims : Primitives) (map : Map) (F : fit map ≡ true) (H : ℕ → Ty
   after-pair [] m n h g = (refl, h)
   after-pair (x ∷ l) m n h g =
       let o = step-pair x m n h (g .0) (g .1) in
-      let r = after-pair l (step prims map x m .result .machine) (step prims map x n .result .machine) (o .pair) (g .2) in
+      let r = after-pair l (machineAfter prims map x m) (machineAfter prims map x n) (o .pair) (g .2) in
       (ap₂ (λ (a : Answer) (rest : List Answer). a ∷ rest) (o .answer) (r .0), r .1)
 
 -- ---- the theorem
@@ -377,5 +360,5 @@ unfolding answers after Matched
 two-chips prims map F m n r r′ e h l g =
     let H = Hidden map (m .lent .cells) (n .lent .cells) in
     let o = first-pair prims map F H (λ p v. v .known) (λ p v. v .secret) m n r r′ (record { at = λ j q. h .at j (λ w. q .shows (w .hidden) (w .isData)) }) e (λ p v. v .nonzero) (g .1) in
-    let t = after-pair prims map F H (λ p v. v .known) (λ p v. v .secret) l (step prims map PowerUp m .result .machine) (step prims map PowerUp n .result .machine) (o .pair) (g .2) in
+    let t = after-pair prims map F H (λ p v. v .known) (λ p v. v .secret) l (machineAfter prims map PowerUp m) (machineAfter prims map PowerUp n) (o .pair) (g .2) in
     (ap₂ (λ (a : Answer) (rest : List Answer). a ∷ rest) (o .answer) (t .0), t .1 .records, record { at = λ j q. t .1 .fuses .at j (record { shows = λ v u. q (record { hidden = v; isData = u }) }) })

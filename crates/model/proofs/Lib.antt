@@ -8,6 +8,7 @@ pub mod Chips
 pub mod Strokes
 pub mod Device
 pub mod Refusals
+pub mod Quiet
 pub mod Theorems
 pub mod Everything
 pub mod Cases

@@ -1,15 +1,15 @@
 -- A refusal changes nothing. The idea: a command but transition and power-up says its only answer other than 0 with nothing done, or programs once
 -- and refuses that; a transition refuses early with nothing done, or turns the phase with each later answer.
 use mathlib.Core.Path.{_≡_, refl, sym, subst}
-use mathlib.Core.Bool.{Bool, true, false, not, _&&_, _||_}
+use mathlib.Core.Bool.{Bool, true, false, _||_}
 use mathlib.Core.List.{List}
 use mathlib.Core.Option.{Option, none, some}
-use Prim.Native.Nat.{ℕ, suc, _*_, _+_, _^_}
+use Prim.Native.Nat.{ℕ}
 use native.Mathlib.Omega.{arith}
-use lib.Dec.{eqb, leb, ltb}
+use lib.Dec.{eqb}
 use Rattle.basics.specs.Choice.{if_then_else_}
 use Rattle.basics.proofs.Choice.{if-both, if-false, true-not-false}
-use Rattle.words.specs.Programming.{programAnswer, programCells}
+use Rattle.words.specs.Programming.{programAnswer}
 use Rattle.partitions.specs.Map.{Map}
 use Rattle.life_cycle.specs.declared.LifeCycle.{LifeCycle}
 use Rattle.life_cycle.specs.declared.LifeCycle.the-variants.{Valid, Invalid}
@@ -27,14 +27,13 @@ use Rattle.model.specs.declared.Command.the-variants.{Read, Write, Front
 use Rattle.model.specs.Session.{inPhase}
 use Rattle.model.specs.Answers.{codeOf}
 use Rattle.model.specs.Lent.{Machine, Primitives}
-use Rattle.model.specs.Acts.{Turn, stay, halt, die, Act, say, program, compare, refuse, turned, Performed, noting, perform}
+use Rattle.model.specs.Acts.{Turn, stay, halt, die, Act, say, program, refuse, turned, Performed, perform}
 use Rattle.model.specs.Commands.{writeAct, readAct, frontReadAct, digestAct, readLockAct, moveAct, lockedTokenAct, tokenAct, entryAct, transitionAct, commandAct, readyAct}
 use Rattle.model.specs.PowerUp.{Waking, lifeCycleWaking, wakingOf, verdictOf, lifeCycleIn, waking, wokenAnswer}
 use Rattle.model.specs.Step.{Step, unchanged, performed, act, powerUp, obey, step}
 use Rattle.model.specs.Beyond.{quiet}
 use Rattle.model.specs.Refusals.{early, phaseAfter, Refusals}
 use Rattle.model.proofs.Acts.{after-both, Gives, says, programs, compares, gives-if, perform-gives}
-use Rattle.model.proofs.Steps.{step-all}
 
 -- what an act came to that left the cells and turned nothing
 same-machine : (prims : Primitives) (map : Map) (m : Machine) (r : Performed) → r .cells ≡ m .lent .cells → r .turn ≡ stay
@@ -204,14 +203,14 @@ module _ (prims : Primitives) (map : Map) (m : Machine) where
   unfolding step unchanged obey act performed early
   transitions-refuse target high low =
       let Q : Step → Type 0 = λ s.
-          (early (codeOf (s .result .answer)) ≡ true → s .result .machine ≡ m)
-          × (early (codeOf (s .result .answer)) ≡ false
-          → (s .result .machine .lent .copy ≡ m .lent .copy)
-          × (s .result .machine .session ≡ inPhase (phaseAfter (codeOf (s .result .answer))) (m .session))
-          × (codeOf (s .result .answer) ≡ 0x20 → s .result .machine .lent .cells ≡ m .lent .cells)) in
+      (early (codeOf (s .result .answer)) ≡ true → s .result .machine ≡ m)
+      × (early (codeOf (s .result .answer)) ≡ false
+      → (s .result .machine .lent .copy ≡ m .lent .copy)
+      × (s .result .machine .session ≡ inPhase (phaseAfter (codeOf (s .result .answer))) (m .session))
+      × (codeOf (s .result .answer) ≡ 0x20 → s .result .machine .lent .cells ≡ m .lent .cells)) in
       let r : Performed = perform (readyAct prims map m (Transition target high low)) (m .lent .copy) (m .lent .cells) in
       let ended : Ended (m .session) (m .lent .cells) r =
-          perform-transits (transition-transits target high low) (m .session) (m .lent .copy) (m .lent .cells) in
+      perform-transits (transition-transits target high low) (m .session) (m .lent .copy) (m .lent .cells) in
       if-both Q _ _ _ (λ e. ((λ j. refl), λ j. absurd (true-not-false refl j))) λ e. if-both Q _ _ _ (λ e. ((λ j. refl), λ j. absurd (true-not-false refl j)))
       λ e. ((λ j. same-machine prims map m r (ended .0 j .0) (ended .0 j .1)), λ j. (refl, ended .1 j .0, ended .1 j .1))
 

@@ -1,15 +1,15 @@
 -- Transitions from power-up on. The idea: while the phase is Ready the cells hold the record's state and count; the words of one stroke more,
 -- and of an allowed state, cover those words, so no transition answers 4, and what is decoded only moves along the table.
 use mathlib.Core.Path.{_≡_, refl, ap, ap₂, _∙_}
-use mathlib.Core.Bool.{Bool, true, false, not}
+use mathlib.Core.Bool.{Bool, true, false}
 use mathlib.Core.List.{List, [], _∷_, _++_}
 use mathlib.Core.Option.{Option, none, some}
 use Prim.Native.Nat.{ℕ, suc, _+_, _*_, _^_, _≤_, _<_}
 use native.Mathlib.Omega.{arith}
-use lib.Dec.{T, eqb}
-use lib.ListN.{length, getD}
-use borrow.Author.Tests.{ltb-true, not-false}
-use Rattle.basics.proofs.Choice.{true-not-false, unequal, if-both}
+use lib.Dec.{eqb}
+use lib.ListN.{length}
+use borrow.Author.Tests.{eqb-false, ltb-true, not-false}
+use Rattle.basics.proofs.Choice.{true-not-false, if-both}
 use Rattle.words.specs.declared.Programmed.the-variants as programmed
 use Rattle.words.specs.Words.{partAt}
 use Rattle.words.specs.Programming.{programAnswer, programCells}
@@ -17,7 +17,7 @@ use Rattle.words.proofs.Words.{Words}
 use Rattle.words.proofs.Parts.{part-same}
 use Rattle.words.proofs.Programming.{program-elsewhere, program-takes, program-length}
 use Rattle.partitions.specs.declared.Kind.the-variants as kind
-use Rattle.partitions.specs.Map.{Map, partitionAt, numberOfKind}
+use Rattle.partitions.specs.Map.{Map, numberOfKind}
 use Rattle.partitions.specs.Fitness.{fit}
 use Rattle.partitions.proofs.Map.{life-cycle-last, life-cycle-partition, partition-fit}
 use Rattle.life_cycle.specs.declared.LifeCycle.{LifeCycle}
@@ -43,12 +43,12 @@ use Rattle.model.specs.Lent.{Lent, Machine, Primitives}
 use Rattle.model.specs.Acts.{Turn, stay, lock, halt, die, turned, Act, say, program, compare, Performed, afterProgram, noting, perform}
 use Rattle.model.specs.Commands.{counterAt, stateAt, moveAct, lockedTokenAct, tokenAct, entryAct, transitionAct, commandAct, readyAct}
 use Rattle.model.specs.PowerUp.{Waking, waking, wakingOf, lifeCycleWaking, verdictOf, lifeCycleIn, wokenSession}
-use Rattle.model.specs.Step.{Step, unchanged, performed, act, powerUp, obey, step, after}
+use Rattle.model.specs.Step.{Step, unchanged, performed, act, powerUp, obey, step, after, machineAfter, answerTo}
 use Rattle.model.specs.Terms.{Right}
 use Rattle.model.specs.Beyond.{Course, stays, spends, moves, Rising}
 use Rattle.model.proofs.Acts.{perform-frame}
-use Rattle.model.proofs.Frame.{Open, unlocked, lifeCycle, isTransition, life-words, act-within}
-use Rattle.model.proofs.Steps.{after-append, step-all, step-obeys, step-up, step-right, after-right, cells-length}
+use Rattle.model.proofs.Frame.{Open, unlocked, lifeCycle, isTransition, life-words, life-closed, life-same, act-within}
+use Rattle.model.proofs.Steps.{after-append, step-all, step-obeys, step-up, step-right, after-right, cells-length, acted, poweredUp}
 use Rattle.model.proofs.Locks.{turned-ready}
 
 -- while the phase is Ready the cells hold the record's state and count
@@ -120,15 +120,15 @@ module _ (prims : Primitives) (map : Map) (F : fit map ≡ true) (m : Machine) (
     abbrev Ok : Performed → Type 0
     Ok = Moved prims map m target
 
-    said : (answer : Answer) → T (not (eqb (codeOf answer) 0x04)) → Ok (perform (say answer halt) (m .lent .copy) cells₁)
+    said : (answer : Answer) → eqb (codeOf answer) 0x04 ≡ false → Ok (perform (say answer halt) (m .lent .copy) cells₁)
     unfolding perform
-    said answer t = spent live room refl halt-stops (unequal t)
+    said answer t = spent live room refl halt-stops (eqb-false _ _ t)
 
     move-ok : {token : Token} → transition (m .session .state) target ≡ Allowed token → Ok (perform (moveAct prims map m target) (m .lent .copy) cells₁)
     unfolding moveAct perform afterProgram
-    move-ok a = rw (move-fits target a) (reached live room a refl halt-stops (unequal tt))
+    move-ok a = rw (move-fits target a) (reached live room a refl halt-stops (eqb-false _ _ refl))
 
-    compared-ok : {token : Token} → transition (m .session .state) target ≡ Allowed token → (test : List ℕ → Bool) (answer : Answer) → T (not (eqb (codeOf answer) 0x04))
+    compared-ok : {token : Token} → transition (m .session .state) target ≡ Allowed token → (test : List ℕ → Bool) (answer : Answer) → eqb (codeOf answer) 0x04 ≡ false
         → Ok (perform (compare test (moveAct prims map m target) (say answer halt)) (m .lent .copy) cells₁)
     unfolding perform
     compared-ok a test answer t = noted prims map m target _ _ (if-both Ok _ _ _ (λ e. move-ok a) (λ e. said answer t))
@@ -137,19 +137,19 @@ module _ (prims : Primitives) (map : Map) (F : fit map ≡ true) (m : Machine) (
         → Ok (perform (lockedTokenAct prims map m token target given) (m .lent .copy) cells₁)
     unfolding lockedTokenAct
     locked-ok token given a =
-        if-both (λ (x : Act). Ok (perform x (m .lent .copy) cells₁)) _ _ _ (λ e. said TokenNotLocked tt) (λ e. compared-ok a _ TokenDiffers tt)
+        if-both (λ (x : Act). Ok (perform x (m .lent .copy) cells₁)) _ _ _ (λ e. said TokenNotLocked refl) (λ e. compared-ok a _ TokenDiffers refl)
 
     token-ok : (token : Token) (given : ℕ) → transition (m .session .state) target ≡ Allowed token → Ok (perform (tokenAct prims map m token target given) (m .lent .copy) cells₁)
     unfolding tokenAct
     token-ok Nothing given a = move-ok a
-    token-ok RawUnlock given a = compared-ok a _ TokenDiffers tt
+    token-ok RawUnlock given a = compared-ok a _ TokenDiffers refl
     token-ok TestUnlock given a = locked-ok TestUnlock given a
     token-ok TestExit given a = locked-ok TestExit given a
     token-ok Rma given a = locked-ok Rma given a
 
     entry-ok : (e : Entry) (given : ℕ) → transition (m .session .state) target ≡ e → Ok (perform (entryAct prims map m e target given) (m .lent .copy) cells₁)
     unfolding entryAct
-    entry-ok Forbidden given a = said NotInTable tt
+    entry-ok Forbidden given a = said NotInTable refl
     entry-ok (Allowed token) given a = token-ok token given a
 
     spend-ok : (given : ℕ) → Ok (perform (program (counterAt prims map) counter die (entryAct prims map m (transition (m .session .state) target) target given)) (m .lent .copy) (m .lent .cells))
@@ -161,7 +161,7 @@ module _ (prims : Primitives) (map : Map) (F : fit map ≡ true) where
       → Moved prims map m target (perform (readyAct prims map m (Transition target high low)) (m .lent .copy) (m .lent .cells))
   unfolding readyAct commandAct transitionAct perform
   transition-moves m r live target high low =
-      if-both Q _ _ _ (λ e. still refl (unequal tt)) λ ready. if-both Q _ _ _ (λ e. still refl (unequal tt)) λ e. if-both Q _ _ _ (λ e. still refl (unequal tt)) λ e. if-both Q _ _ _ (λ e. still refl (unequal tt))
+      if-both Q _ _ _ (λ e. still refl (eqb-false _ _ refl)) λ ready. if-both Q _ _ _ (λ e. still refl (eqb-false _ _ refl)) λ e. if-both Q _ _ _ (λ e. still refl (eqb-false _ _ refl)) λ e. if-both Q _ _ _ (λ e. still refl (eqb-false _ _ refl))
       λ room. spend-ok prims map F m r (live .holds (not-false _ ready)) (ltb-true _ _ (not-false _ room)) target (high * 2 ^ 64 + low)
     where
       Q : Act → Type 0
@@ -178,29 +178,21 @@ module _ (prims : Primitives) (map : Map) (F : fit map ≡ true) where
       if-both (λ (w : Waking). isReady (wokenSession prims map w l .phase) ≡ true → Valid state count ≡ Valid (wokenSession prims map w l .state) (wokenSession prims map w l .count))
       _ _ _ (λ t e. absurd (true-not-false e refl)) (λ t e. refl)
 
-  -- what is decoded depends on the life cycle words alone
-  life-same : (c d copy copy′ t : List ℕ)
-      → ((j : ℕ) → counterAt prims map ≤ j → j < counterAt prims map + 44 → getD c j 0 ≡ getD d j 0)
-      → lifeCycleIn prims map (record { cells = c; copy = copy; constants = t }) ≡ lifeCycleIn prims map (record { cells = d; copy = copy′; constants = t })
-  unfolding lifeCycleIn stateAt
-  life-same c d copy copy′ t h =
-      ap₂ (λ (x y : List ℕ). decoded t x y) (part-same c d _ 24 (λ j lo hi. h j lo (omega arith))) (part-same c d _ 20 (λ j lo hi. h j (omega arith) (omega arith)))
-
-  up-life : (m : Machine) → lifeCycleIn prims map (powerUp prims map m .result .machine .lent) ≡ lifeCycleIn prims map (m .lent)
+  up-life : (m : Machine) → lifeCycleIn prims map (poweredUp prims map m .lent) ≡ lifeCycleIn prims map (m .lent)
   unfolding powerUp
-  up-life m = life-same (m .lent .cells) (m .lent .cells) _ (m .lent .copy) (m .lent .constants) (λ j l u. refl)
+  up-life m = life-same prims map F (m .lent .cells) (m .lent .cells) _ (m .lent .copy) (m .lent .constants) (λ j l u. refl)
 
-  up-living : (m : Machine) → Living prims map (powerUp prims map m .result .machine)
+  up-living : (m : Machine) → Living prims map (poweredUp prims map m)
   up-living m = record { holds = λ e. up-life m ∙ (unfold powerUp waking in (woken-living (verdictOf prims map (m .lent)) (lifeCycleIn prims map (m .lent)) (m .lent) e)) }
 
   -- a command that is no transition leaves the life cycle words
-  others-life : (x : Command) (m : Machine) → isTransition x ≡ false → lifeCycleIn prims map (act prims map x m .result .machine .lent) ≡ lifeCycleIn prims map (m .lent)
+  others-life : (x : Command) (m : Machine) → isTransition x ≡ false → lifeCycleIn prims map (acted prims map x m .lent) ≡ lifeCycleIn prims map (m .lent)
   unfolding act performed
   others-life x m n =
-      life-same _ (m .lent .cells) _ _ (m .lent .constants) (λ j lo hi. perform-frame (act-within prims map F m x) (m .lent .copy) (m .lent .cells) j (shut j lo hi))
+      life-same prims map F _ (m .lent .cells) _ _ (m .lent .constants) (λ j lo hi. perform-frame (act-within prims map F m x) (m .lent .copy) (m .lent .cells) j (shut j lo hi))
     where
       shut : (j : ℕ) → counterAt prims map ≤ j → j < counterAt prims map + 44 → Open map x (m .session) j → ⊥
-      shut j lo hi (unlocked r d z) = true-not-false d (unfold partitionAt in (rw (life-words prims map F j lo hi) (life-cycle-partition map F .closed)))
+      shut j lo hi (unlocked r d z aim) = true-not-false d (life-closed prims map F j (life-words prims map F j lo hi))
       shut j lo hi (lifeCycle r t e) = true-not-false t n
 
   -- ---- one command more
@@ -262,12 +254,17 @@ module _ (prims : Primitives) (map : Map) (F : fit map ≡ true) where
   same-goes : (m : Machine) (s : Step) → lifeCycleIn prims map (s .result .machine .lent) ≡ lifeCycleIn prims map (m .lent) → Living prims map (s .result .machine) → Goes m s
   same-goes m s e l = record { course = rw e stays; living = l }
 
-  others-go : (x : Command) (m : Machine) → isTransition x ≡ false → Living prims map m → Goes m (act prims map x m)
-  others-go x m n live = same-goes m (act prims map x m) (others-life x m n) (record { holds = λ e. others-life x m n ∙ kept e })
+  -- an act that leaves the life cycle words
+  act-stays : (x : Command) (m : Machine) → Living prims map m → lifeCycleIn prims map (acted prims map x m .lent) ≡ lifeCycleIn prims map (m .lent)
+      → Goes m (act prims map x m)
+  act-stays x m live same = same-goes m (act prims map x m) same (record { holds = λ e. same ∙ kept e })
     where
-      kept : isReady (act prims map x m .result .machine .session .phase) ≡ true
-          → lifeCycleIn prims map (m .lent) ≡ Valid (act prims map x m .result .machine .session .state) (act prims map x m .result .machine .session .count)
+      kept : isReady (acted prims map x m .session .phase) ≡ true
+          → lifeCycleIn prims map (m .lent) ≡ Valid (acted prims map x m .session .state) (acted prims map x m .session .count)
       kept = unfold act performed in (λ e. rw (turned-life _ _ .0, turned-life _ _ .1) (live .holds (turned-ready _ (m .session) e)))
+
+  others-go : (x : Command) (m : Machine) → isTransition x ≡ false → Living prims map m → Goes m (act prims map x m)
+  others-go x m n live = act-stays x m live (others-life x m n)
 
   transition-goes : (m : Machine) → Right map m → Living prims map m → (target high low : ℕ) → Goes m (act prims map (Transition target high low) m)
   transition-goes m r live target high low = go (transition-moves m r live target high low)
@@ -279,20 +276,14 @@ module _ (prims : Primitives) (map : Map) (F : fit map ≡ true) where
       outcome = perform (readyAct prims map m x) (m .lent .copy) (m .lent .cells)
 
       -- a turn that leaves Ready leaves nothing to hold
-      stopped : stops (outcome .turn) → Living prims map (act prims map x m .result .machine)
+      stopped : stops (outcome .turn) → Living prims map (acted prims map x m)
       stopped h = record { holds = unfold act performed in (λ e. absurd (h (m .session) e)) }
 
-      lent-is : (c : List ℕ) → outcome .cells ≡ c → act prims map x m .result .machine .lent ≡ record { cells = c; copy = m .lent .copy; constants = m .lent .constants }
+      lent-is : (c : List ℕ) → outcome .cells ≡ c → acted prims map x m .lent ≡ record { cells = c; copy = m .lent .copy; constants = m .lent .constants }
       lent-is c e = unfold act performed in (rw e)
 
       go : Moved prims map m target outcome → Goes m (act prims map x m)
-      go (still e f) =
-          let same : lifeCycleIn prims map (act prims map x m .result .machine .lent) ≡ lifeCycleIn prims map (m .lent) = ap (lifeCycleIn prims map) (lent-is (m .lent .cells) e) in
-          same-goes m (act prims map x m) same (record { holds = λ q. same ∙ kept q })
-        where
-          kept : isReady (act prims map x m .result .machine .session .phase) ≡ true
-              → lifeCycleIn prims map (m .lent) ≡ Valid (act prims map x m .result .machine .session .state) (act prims map x m .result .machine .session .count)
-          kept = unfold act performed in (λ q. rw (turned-life _ _ .0, turned-life _ _ .1) (live .holds (turned-ready _ (m .session) q)))
+      go (still e f) = act-stays x m live (ap (lifeCycleIn prims map) (lent-is (m .lent .cells) e))
       go (spent v l e h f) =
           let q = ap (lifeCycleIn prims map) (lent-is _ e) ∙ spent-life m r v l (m .lent .copy) in
           record { course = rw (q, v) (spends stays); living = stopped h }
@@ -329,29 +320,29 @@ module _ (prims : Primitives) (map : Map) (F : fit map ≡ true) where
   after-goes [] m r live = (stays, live)
   after-goes (x ∷ l) m r live =
       let s = step-goes x m r live in
-      let t = after-goes l (step prims map x m .result .machine) (step-right prims map x m r) (s .living) in
+      let t = after-goes l (machineAfter prims map x m) (step-right prims map x m r) (s .living) in
       (course-trans (s .course) (t .0), t .1)
 
   -- ---- the theorems
 
-  first-living : (m : Machine) → Right map m → Living prims map (step prims map PowerUp m .result .machine)
-  first-living m r = rw (step-up prims map m r) (up-living m)
+  first-living : (m : Machine) → Right map m → Living prims map (machineAfter prims map PowerUp m)
+  first-living m r = rw (step-up prims map m r, machineAfter) (up-living m)
 
   pub since-living : (m : Machine) → Right map m → (l : List Command) → Living prims map (after prims map (PowerUp ∷ l) m)
   unfolding after
-  since-living m r l = after-goes l (step prims map PowerUp m .result .machine) (step-right prims map PowerUp m r) (first-living m r) .1
+  since-living m r l = after-goes l (machineAfter prims map PowerUp m) (step-right prims map PowerUp m r) (first-living m r) .1
 
   moved-not-four : (m : Machine) (target : ℕ) {p : Performed} → Moved prims map m target p → codeOf (p .answer) ≡ 0x04 → ⊥
   moved-not-four m target (still e f) = f
   moved-not-four m target (spent v l e h f) = f
   moved-not-four m target (reached v l a e h f) = f
 
-  living-not-four : (m : Machine) → Right map m → Living prims map m → (target high low : ℕ) → codeOf (step prims map (Transition target high low) m .result .answer) ≡ 0x04 → ⊥
+  living-not-four : (m : Machine) → Right map m → Living prims map m → (target high low : ℕ) → codeOf (answerTo prims map (Transition target high low) m) ≡ 0x04 → ⊥
   unfolding obey act performed
-  living-not-four m r live target high low = rw (step-obeys prims map (Transition target high low) m r) (moved-not-four m target (transition-moves m r live target high low))
+  living-not-four m r live target high low = rw (step-obeys prims map (Transition target high low) m r, answerTo) (moved-not-four m target (transition-moves m r live target high low))
 
   pub never-four : (m : Machine) → Right map m → (l : List Command) (target high low : ℕ)
-      → codeOf (step prims map (Transition target high low) (after prims map (PowerUp ∷ l) m) .result .answer) ≡ 0x04 → ⊥
+      → codeOf (answerTo prims map (Transition target high low) (after prims map (PowerUp ∷ l) m)) ≡ 0x04 → ⊥
   never-four m r l target high low =
       living-not-four (after prims map (PowerUp ∷ l) m) (after-right prims map (PowerUp ∷ l) m r) (since-living m r l) target high low
 

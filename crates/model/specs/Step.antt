@@ -81,11 +81,18 @@ module _ (prims : Primitives) (map : Map) where
       else if not (validConstants (m .lent .constants)) then unchanged InvalidConstants m
       else obey x m
 
-  -- the machine after a list of commands, and its answers
+  -- the machine after a command, and the answer
+  abbrev pub machineAfter : Command → Machine → Machine
+  machineAfter x m = step x m .result .machine
+
+  abbrev pub answerTo : Command → Machine → Answer
+  answerTo x m = step x m .result .answer
+
+  -- the machine after a list of commands, and the answers
   unfoldable pub after : List Command → Machine → Machine
   after [] m = m
-  after (x ∷ xs) m = after xs ((step x m) .result .machine)
+  after (x ∷ xs) m = after xs (machineAfter x m)
 
   unfoldable pub answers : List Command → Machine → List Answer
   answers [] m = []
-  answers (x ∷ xs) m = (step x m) .result .answer ∷ answers xs ((step x m) .result .machine)
+  answers (x ∷ xs) m = answerTo x m ∷ answers xs (machineAfter x m)
