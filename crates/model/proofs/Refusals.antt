@@ -30,9 +30,9 @@ use Rattle.model.specs.Lent.{Machine, Primitives}
 use Rattle.model.specs.Acts.{Turn, stay, halt, die, Act, say, program, refuse, turned, Performed, perform}
 use Rattle.model.specs.Commands.{writeAct, readAct, frontReadAct, digestAct, readLockAct, moveAct, lockedTokenAct, tokenAct, entryAct, transitionAct, commandAct, readyAct}
 use Rattle.model.specs.PowerUp.{Waking, lifeCycleWaking, wakingOf, verdictOf, lifeCycleIn, waking, wokenAnswer}
-use Rattle.model.specs.Step.{Step, unchanged, performed, act, powerUp, obey, step}
+use Rattle.model.specs.Step.{Step, unchanged, performed, act, powerUp, obey, step, machineAfter, answerTo}
 use Rattle.model.specs.Beyond.{quiet}
-use Rattle.model.specs.Refusals.{early, phaseAfter, Refusals}
+use Rattle.model.specs.Refusals.{judged, early, phaseAfter, Refusals}
 use Rattle.model.proofs.Acts.{after-both, Gives, says, programs, compares, gives-if, perform-gives}
 
 -- what an act came to that left the cells and turned nothing
@@ -94,7 +94,7 @@ module _ (prims : Primitives) (map : Map) (m : Machine) where
   quiet-obeys (Transition target high low) q = absurd q
   quiet-obeys PowerUp q = absurd q
 
-  commands-refuse : (x : Command) → quiet x → (codeOf (step prims map x m .result .answer) ≡ 0x00 → ⊥) → step prims map x m .result .machine ≡ m
+  commands-refuse : (x : Command) → quiet x → (codeOf (answerTo prims map x m) ≡ 0x00 → ⊥) → machineAfter prims map x m ≡ m
   unfolding step unchanged obey
   commands-refuse x q =
       let Q : Step → Type 0 = λ s. (codeOf (s .result .answer) ≡ 0x00 → ⊥) → s .result .machine ≡ m in
@@ -102,24 +102,20 @@ module _ (prims : Primitives) (map : Map) (m : Machine) where
 
 -- ---- power-up
 
--- the answer of a judgement, before the power-up
-abbrev judged-code : ℕ → Bool
-judged-code code = eqb code 0x10 || eqb code 0x12
-
 module _ (prims : Primitives) (map : Map) where
-  woken-code : (v : Option ℕ) (life : LifeCycle) → judged-code (codeOf (wokenAnswer prims map (wakingOf v life))) ≡ false
+  woken-code : (v : Option ℕ) (life : LifeCycle) → judged (codeOf (wokenAnswer prims map (wakingOf v life))) ≡ false
   unfolding wokenAnswer wakingOf lifeCycleWaking
   woken-code (some number) life = refl
   woken-code none Invalid = refl
   woken-code none (Valid state count) =
-      if-both (λ (w : Waking). judged-code (codeOf (wokenAnswer prims map w)) ≡ false) (eqb state 20) _ _ (λ e. refl) (λ e. refl)
+      if-both (λ (w : Waking). judged (codeOf (wokenAnswer prims map w)) ≡ false) (eqb state 20) _ _ (λ e. refl) (λ e. refl)
 
   power-ups-refuse : (m : Machine)
-      → (step prims map PowerUp m .result .machine .lent .cells ≡ m .lent .cells)
-      × (judged-code (codeOf (step prims map PowerUp m .result .answer)) ≡ true → step prims map PowerUp m .result .machine ≡ m)
+      → (machineAfter prims map PowerUp m .lent .cells ≡ m .lent .cells)
+      × (judged (codeOf (answerTo prims map PowerUp m)) ≡ true → machineAfter prims map PowerUp m ≡ m)
   unfolding step unchanged obey powerUp waking
   power-ups-refuse m =
-      let Q : Step → Type 0 = λ s. (s .result .machine .lent .cells ≡ m .lent .cells) × (judged-code (codeOf (s .result .answer)) ≡ true → s .result .machine ≡ m) in
+      let Q : Step → Type 0 = λ s. (s .result .machine .lent .cells ≡ m .lent .cells) × (judged (codeOf (s .result .answer)) ≡ true → s .result .machine ≡ m) in
       if-both Q _ _ _ (λ e. (refl, λ j. refl)) λ e. if-both Q _ _ _ (λ e. (refl, λ j. refl))
       λ e. (refl, λ j. absurd (true-not-false j (woken-code (verdictOf prims map (m .lent)) (lifeCycleIn prims map (m .lent)))))
 
@@ -193,31 +189,28 @@ module _ (prims : Primitives) (map : Map) (m : Machine) where
       transits-if (λ e. refuses refl) λ e. transits-if (λ e. refuses refl) λ e. transits-if (λ e. refuses refl)
       λ e. transits-if (λ e. used) λ e. spends (programs cleared-later (entry-later _ target _))
 
-  transitions-refuse : (target high low : ℕ)
-      → let r = step prims map (Transition target high low) m .result in
-      (early (codeOf (r .answer)) ≡ true → r .machine ≡ m)
-      × (early (codeOf (r .answer)) ≡ false
-      → (r .machine .lent .copy ≡ m .lent .copy)
-      × (r .machine .session ≡ inPhase (phaseAfter (codeOf (r .answer))) (m .session))
-      × (codeOf (r .answer) ≡ 0x20 → r .machine .lent .cells ≡ m .lent .cells))
+  -- what a transition comes to, as a step
+  abbrev Transited : Step → Type 0
+  Transited s =
+      let code = codeOf (s .result .answer) in
+      (early code ≡ true → s .result .machine ≡ m)
+      × (early code ≡ false
+      → (s .result .machine .lent .copy ≡ m .lent .copy)
+      × (s .result .machine .session ≡ inPhase (phaseAfter code) (m .session))
+      × (code ≡ 0x20 → s .result .machine .lent .cells ≡ m .lent .cells))
+
+  transitions-refuse : (target high low : ℕ) → Transited (step prims map (Transition target high low) m)
   unfolding step unchanged obey act performed early
   transitions-refuse target high low =
-      let Q : Step → Type 0 = λ s.
-      (early (codeOf (s .result .answer)) ≡ true → s .result .machine ≡ m)
-      × (early (codeOf (s .result .answer)) ≡ false
-      → (s .result .machine .lent .copy ≡ m .lent .copy)
-      × (s .result .machine .session ≡ inPhase (phaseAfter (codeOf (s .result .answer))) (m .session))
-      × (codeOf (s .result .answer) ≡ 0x20 → s .result .machine .lent .cells ≡ m .lent .cells)) in
       let r : Performed = perform (readyAct prims map m (Transition target high low)) (m .lent .copy) (m .lent .cells) in
-      let ended : Ended (m .session) (m .lent .cells) r =
-      perform-transits (transition-transits target high low) (m .session) (m .lent .copy) (m .lent .cells) in
-      if-both Q _ _ _ (λ e. ((λ j. refl), λ j. absurd (true-not-false refl j))) λ e. if-both Q _ _ _ (λ e. ((λ j. refl), λ j. absurd (true-not-false refl j)))
+      let ended : Ended (m .session) (m .lent .cells) r = perform-transits (transition-transits target high low) (m .session) (m .lent .copy) (m .lent .cells) in
+      if-both Transited _ _ _ (λ e. ((λ j. refl), λ j. absurd (true-not-false refl j)))
+      λ e. if-both Transited _ _ _ (λ e. ((λ j. refl), λ j. absurd (true-not-false refl j)))
       λ e. ((λ j. same-machine prims map m r (ended .0 j .0) (ended .0 j .1)), λ j. (refl, ended .1 j .0, ended .1 j .1))
 
 pub refusals : (prims : Primitives) (map : Map) → Refusals prims map
 refusals prims map = record {
   commands = commands-refuse prims map;
   powerUps = power-ups-refuse prims map;
-  transitions = λ m target high low. transitions-refuse prims map m target high low .0;
-  later = λ m target high low. transitions-refuse prims map m target high low .1;
+  transitions = transitions-refuse prims map;
 }

@@ -14,12 +14,16 @@ use Rattle.model.specs.declared.Command.the-variants.{Transition, PowerU
 use Rattle.model.specs.Session.{inPhase}
 use Rattle.model.specs.Answers.{codeOf}
 use Rattle.model.specs.Lent.{Machine, Primitives}
-use Rattle.model.specs.Step.{step}
+use Rattle.model.specs.Step.{machineAfter, answerTo}
 use Rattle.model.specs.Beyond.{quiet}
 
--- the codes with which a transition is refused before anything else: 0x10, 0x12, 0x07, and "0x11 changes nothing"
+-- the codes with which what is lent is refused
+abbrev pub judged : ℕ → Bool
+judged code = eqb code 0x10 || eqb code 0x12
+
+-- the codes with which a transition is refused before anything else: these, 0x07, and "0x11 changes nothing"
 unfoldable pub early : ℕ → Bool
-early code = eqb code 0x10 || eqb code 0x12 || eqb code 0x07 || eqb code 0x11
+early code = judged code || eqb code 0x07 || eqb code 0x11
 
 -- "Every later answer leaves the phase Inert (Dead 4 after a 4)."
 unfoldable pub phaseAfter : ℕ → Phase
@@ -28,20 +32,17 @@ phaseAfter code = if eqb code 0x04 then Dead BitCleared else Inert
 module _ (prims : Primitives) (map : Map) where
   pub record Refusals : Type 0 where
     -- a read, write, front read, digest or read lock that does not answer 0 leaves cells, copy and record as they were
-    pub commands : (m : Machine) (x : Command) → quiet x
-        → (codeOf (step prims map x m .result .answer) ≡ 0x00 → ⊥) → step prims map x m .result .machine ≡ m
+    pub commands : (m : Machine) (x : Command) → quiet x → (codeOf (answerTo prims map x m) ≡ 0x00 → ⊥) → machineAfter prims map x m ≡ m
     -- a power-up never changes a cell, and one that answers 0x10 or 0x12 changes nothing at all
     pub powerUps : (m : Machine)
-        → let r = step prims map PowerUp m .result in
-        (r .machine .lent .cells ≡ m .lent .cells) × ((eqb (codeOf (r .answer)) 0x10 || eqb (codeOf (r .answer)) 0x12) ≡ true → r .machine ≡ m)
-    -- a transition that is refused early changes nothing
+        → (machineAfter prims map PowerUp m .lent .cells ≡ m .lent .cells)
+        × (judged (codeOf (answerTo prims map PowerUp m)) ≡ true → machineAfter prims map PowerUp m ≡ m)
+    -- a transition that is refused early changes nothing; every later answer leaves the copy and the record but for its phase, and 0x20 leaves the cells
     pub transitions : (m : Machine) (target high low : ℕ)
-        → let r = step prims map (Transition target high low) m .result in
-        early (codeOf (r .answer)) ≡ true → r .machine ≡ m
-    -- every later answer leaves the copy and the record but for its phase; 0x20 changes no cell
-    pub later : (m : Machine) (target high low : ℕ)
-        → let r = step prims map (Transition target high low) m .result in
-        early (codeOf (r .answer)) ≡ false
-        → (r .machine .lent .copy ≡ m .lent .copy)
-        × (r .machine .session ≡ inPhase (phaseAfter (codeOf (r .answer))) (m .session))
-        × (codeOf (r .answer) ≡ 0x20 → r .machine .lent .cells ≡ m .lent .cells)
+        → let x = Transition target high low in
+        let code = codeOf (answerTo prims map x m) in
+        (early code ≡ true → machineAfter prims map x m ≡ m)
+        × (early code ≡ false
+        → (machineAfter prims map x m .lent .copy ≡ m .lent .copy)
+        × (machineAfter prims map x m .session ≡ inPhase (phaseAfter code) (m .session))
+        × (code ≡ 0x20 → machineAfter prims map x m .lent .cells ≡ m .lent .cells))
