@@ -80,6 +80,9 @@ pub data Gives (T : Answer → Turn → Type 0) : Act → Type 0 where
 pub gives-if : {T : Answer → Turn → Type 0} {b : Bool} {x y : Act} → (b ≡ true → Gives T x) → (b ≡ false → Gives T y) → Gives T (if b then x else y)
 gives-if {T} {b} {x} {y} f g = if-both (Gives T) b x y f g
 
+pub gives-either : {T : Answer → Turn → Type 0} (b : Bool) {x y : Act} → Gives T x → Gives T y → Gives T (if b then x else y)
+gives-either b f g = gives-if (λ e. f) (λ e. g)
+
 pub perform-gives : {T : Answer → Turn → Type 0} {x : Act} → Gives T x → (copy cells : List ℕ) → T (perform x copy cells .answer) (perform x copy cells .turn)
 unfolding perform noting
 perform-gives (Gives.says h) copy cells = h

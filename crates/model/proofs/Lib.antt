@@ -7,7 +7,9 @@ pub mod Writes
 pub mod Chips
 pub mod Strokes
 pub mod Device
+pub mod Transitions
 pub mod Refusals
+pub mod Deaths
 pub mod Quiet
 pub mod Theorems
 pub mod Everything

@@ -1,12 +1,11 @@
 -- What lasts while a chip is Ready. The idea: a command after which Ready lasts is an act whose turn leaves the phase, the sensed digests and
 -- the lengths; so the record still tells what the last power-up found.
 use mathlib.Core.Path.{_≡_, refl, subst, _∙_}
-use mathlib.Core.Bool.{Bool, true}
+use mathlib.Core.Bool.{true}
 use mathlib.Core.List.{List, [], _∷_}
 use Prim.Native.Nat.{ℕ}
 use native.Mathlib.Omega.{arith}
 use borrow.Author.Tests.{eqb-false}
-use Rattle.basics.specs.Choice.{if_then_else_}
 use Rattle.basics.proofs.Choice.{if-both}
 use Rattle.partitions.specs.Fitness.{fit}
 use Rattle.partitions.specs.Map.{Map, partition}
@@ -30,7 +29,7 @@ use Rattle.model.specs.Commands.{storedDigest, writeAct, readAct, frontR
 use Rattle.model.specs.PowerUp.{Waking, wakes, waking, wakingOf, lifeCycleWaking, wokenSession, wokenAnswer}
 use Rattle.model.specs.Step.{performed, act, powerUp, step, after, machineAfter, answerTo}
 use Rattle.model.specs.Terms.{Right, Digested, staysReady, Lasts}
-use Rattle.model.proofs.Acts.{Gives, perform-gives, gives-if}
+use Rattle.model.proofs.Acts.{Gives, perform-gives, gives-either}
 use Rattle.model.proofs.Steps.{obeys-act, step-obeys, step-up, up-right, act-right, acted, poweredUp}
 use Rattle.model.proofs.Locks.{turned-sensed, sensed-stored}
 
@@ -45,9 +44,6 @@ calm-phase : (t : Turn) (s : Session) → calm t → turned t s .phase ≡ s .ph
 unfolding turned
 calm-phase stay s h = refl
 calm-phase (lock number) s h = refl
-
-gives-either : {T : Answer → Turn → Type 0} (b : Bool) {x y : Act} → Gives T x → Gives T y → Gives T (if b then x else y)
-gives-either b f g = gives-if (λ e. f) (λ e. g)
 
 -- an answer with which Ready lasts goes with a calm turn
 abbrev Calm : Command → Answer → Turn → Type 0

@@ -1,24 +1,18 @@
 -- A refusal changes nothing. The idea: a command but transition and power-up says its only answer other than 0 with nothing done, or programs once
 -- and refuses that; a transition refuses early with nothing done, or turns the phase with each later answer.
 use mathlib.Core.Path.{_≡_, refl, sym, subst}
-use mathlib.Core.Bool.{Bool, true, false, _||_}
+use mathlib.Core.Bool.{Bool, true, false}
 use mathlib.Core.List.{List}
 use mathlib.Core.Option.{Option, none, some}
 use Prim.Native.Nat.{ℕ}
-use native.Mathlib.Omega.{arith}
 use lib.Dec.{eqb}
+use borrow.Author.Tests.{eqb-false}
 use Rattle.basics.specs.Choice.{if_then_else_}
-use Rattle.basics.proofs.Choice.{if-both, if-false, true-not-false}
+use Rattle.basics.proofs.Choice.{if-both, true-not-false}
 use Rattle.words.specs.Programming.{programAnswer}
 use Rattle.partitions.specs.Map.{Map}
 use Rattle.life_cycle.specs.declared.LifeCycle.{LifeCycle}
 use Rattle.life_cycle.specs.declared.LifeCycle.the-variants.{Valid, Invalid}
-use Rattle.life_cycle.specs.declared.Token.{Token}
-use Rattle.life_cycle.specs.declared.Token.the-variants.{Nothing, RawUnlock, TestUnlock, TestExit, Rma}
-use Rattle.life_cycle.specs.declared.Entry.{Entry}
-use Rattle.life_cycle.specs.declared.Entry.the-variants.{Allowed, Forbidden}
-use Rattle.model.specs.declared.Reason.the-variants.{BitCleared}
-use Rattle.model.specs.declared.Phase.the-variants.{Inert, Dead}
 use Rattle.model.specs.declared.Answer.{Answer}
 use Rattle.model.specs.declared.Answer.the-variants.{Done, Cleared, StrokesUsed, NotInTable, TokenNotLocked, TokenDiffers}
 use Rattle.model.specs.declared.Session.{Session}
@@ -28,15 +22,16 @@ use Rattle.model.specs.Session.{inPhase}
 use Rattle.model.specs.Answers.{codeOf}
 use Rattle.model.specs.Lent.{Machine, Primitives}
 use Rattle.model.specs.Acts.{Turn, stay, halt, die, Act, say, program, refuse, turned, Performed, perform}
-use Rattle.model.specs.Commands.{writeAct, readAct, frontReadAct, digestAct, readLockAct, moveAct, lockedTokenAct, tokenAct, entryAct, transitionAct, commandAct, readyAct}
+use Rattle.model.specs.Commands.{writeAct, readAct, frontReadAct, digestAct, readLockAct, transitionAct, commandAct, readyAct}
 use Rattle.model.specs.PowerUp.{Waking, lifeCycleWaking, wakingOf, verdictOf, lifeCycleIn, waking, wokenAnswer}
 use Rattle.model.specs.Step.{Step, unchanged, performed, act, powerUp, obey, step, machineAfter, answerTo}
 use Rattle.model.specs.Beyond.{quiet}
-use Rattle.model.specs.Refusals.{judged, early, phaseAfter, Refusals}
-use Rattle.model.proofs.Acts.{after-both, Gives, says, programs, compares, gives-if, perform-gives}
+use Rattle.model.specs.Refusals.{judged, early, phaseAfter}
+use Rattle.model.proofs.Acts.{after-both, Gives, programs, perform-gives}
+use Rattle.model.proofs.Transitions.{Ends, entry-gives}
 
 -- what an act came to that left the cells and turned nothing
-same-machine : (prims : Primitives) (map : Map) (m : Machine) (r : Performed) → r .cells ≡ m .lent .cells → r .turn ≡ stay
+pub same-machine : (prims : Primitives) (map : Map) (m : Machine) (r : Performed) → r .cells ≡ m .lent .cells → r .turn ≡ stay
     → performed prims map r m .result .machine ≡ m
 unfolding performed turned
 same-machine prims map m r e f = rw (e, f) refl
@@ -94,7 +89,7 @@ module _ (prims : Primitives) (map : Map) (m : Machine) where
   quiet-obeys (Transition target high low) q = absurd q
   quiet-obeys PowerUp q = absurd q
 
-  commands-refuse : (x : Command) → quiet x → (codeOf (answerTo prims map x m) ≡ 0x00 → ⊥) → machineAfter prims map x m ≡ m
+  pub commands-refuse : (x : Command) → quiet x → (codeOf (answerTo prims map x m) ≡ 0x00 → ⊥) → machineAfter prims map x m ≡ m
   unfolding step unchanged obey
   commands-refuse x q =
       let Q : Step → Type 0 = λ s. (codeOf (s .result .answer) ≡ 0x00 → ⊥) → s .result .machine ≡ m in
@@ -110,7 +105,7 @@ module _ (prims : Primitives) (map : Map) where
   woken-code none (Valid state count) =
       if-both (λ (w : Waking). judged (codeOf (wokenAnswer prims map w)) ≡ false) (eqb state 20) _ _ (λ e. refl) (λ e. refl)
 
-  power-ups-refuse : (m : Machine)
+  pub power-ups-refuse : (m : Machine)
       → (machineAfter prims map PowerUp m .lent .cells ≡ m .lent .cells)
       × (judged (codeOf (answerTo prims map PowerUp m)) ≡ true → machineAfter prims map PowerUp m ≡ m)
   unfolding step unchanged obey powerUp waking
@@ -147,47 +142,27 @@ perform-transits used s copy cells = ((λ j. absurd (true-not-false j refl)), λ
 perform-transits (spends g) s copy cells =
     ((λ j. absurd (true-not-false j (perform-gives g copy cells .0))), λ j. (perform-gives g copy cells .2 s, λ u. absurd (perform-gives g copy cells .1 u)))
 
-cleared-later : (cell : ℕ) → Later (Cleared cell) die
-unfolding early phaseAfter turned if_then_else_
-cleared-later cell = (refl, (λ e. omega (arith, e)), λ s. refl)
+-- an answer with the turn that goes with it, where neither is early nor 0x20
+later-by : (answer : Answer) (turn : Turn) → early (codeOf answer) ≡ false → eqb (codeOf answer) 0x20 ≡ false
+    → ((s : Session) → turned turn s ≡ inPhase (phaseAfter (codeOf answer)) s) → Later answer turn
+later-by answer turn e u f = (e, eqb-false _ _ u, f)
 
--- the other answers of a transition whose stroke is spent
-halts-later : (answer : Answer) → early (codeOf answer) ≡ false → (codeOf answer ≡ 0x20 → ⊥) → eqb (codeOf answer) 0x04 ≡ false → Later answer halt
-unfolding phaseAfter turned
-halts-later answer e u f = (e, u, λ s. rw (if-false (Dead BitCleared) Inert f))
+later-ends : Ends Later
+unfolding early phaseAfter turned if_then_else_
+later-ends = record {
+  cleared = λ cell. later-by (Cleared cell) die refl refl (λ s. refl);
+  moved = later-by (Done 0) halt refl refl (λ s. refl);
+  forbidden = later-by NotInTable halt refl refl (λ s. refl);
+  open? = later-by TokenNotLocked halt refl refl (λ s. refl);
+  differs = later-by TokenDiffers halt refl refl (λ s. refl);
+}
 
 module _ (prims : Primitives) (map : Map) (m : Machine) where
-  move-later : (target : ℕ) → Gives Later (moveAct prims map m target)
-  unfolding moveAct early
-  move-later target = programs cleared-later (says (halts-later (Done 0) refl (λ e. omega (arith, e)) refl))
-
-  differs-later : Later TokenDiffers halt
-  unfolding early
-  differs-later = halts-later TokenDiffers refl (λ e. omega (arith, e)) refl
-
-  locked-later : (token : Token) (target given : ℕ) → Gives Later (lockedTokenAct prims map m token target given)
-  unfolding lockedTokenAct early
-  locked-later token target given =
-      gives-if (λ e. says (halts-later TokenNotLocked refl (λ e. omega (arith, e)) refl)) λ e. compares (move-later target) (says differs-later)
-
-  token-later : (token : Token) (target given : ℕ) → Gives Later (tokenAct prims map m token target given)
-  unfolding tokenAct
-  token-later Nothing target given = move-later target
-  token-later RawUnlock target given = compares (move-later target) (says differs-later)
-  token-later TestUnlock target given = locked-later TestUnlock target given
-  token-later TestExit target given = locked-later TestExit target given
-  token-later Rma target given = locked-later Rma target given
-
-  entry-later : (entry : Entry) (target given : ℕ) → Gives Later (entryAct prims map m entry target given)
-  unfolding entryAct early
-  entry-later Forbidden target given = says (halts-later NotInTable refl (λ e. omega (arith, e)) refl)
-  entry-later (Allowed token) target given = token-later token target given
-
   transition-transits : (target high low : ℕ) → Transits (readyAct prims map m (Transition target high low))
   unfolding readyAct commandAct transitionAct early
   transition-transits target high low =
       transits-if (λ e. refuses refl) λ e. transits-if (λ e. refuses refl) λ e. transits-if (λ e. refuses refl)
-      λ e. transits-if (λ e. used) λ e. spends (programs cleared-later (entry-later _ target _))
+      λ e. transits-if (λ e. used) λ e. spends (programs (later-ends .cleared) (entry-gives later-ends prims map m _ target _))
 
   -- what a transition comes to, as a step
   abbrev Transited : Step → Type 0
@@ -199,7 +174,7 @@ module _ (prims : Primitives) (map : Map) (m : Machine) where
       × (s .result .machine .session ≡ inPhase (phaseAfter code) (m .session))
       × (code ≡ 0x20 → s .result .machine .lent .cells ≡ m .lent .cells))
 
-  transitions-refuse : (target high low : ℕ) → Transited (step prims map (Transition target high low) m)
+  pub transitions-refuse : (target high low : ℕ) → Transited (step prims map (Transition target high low) m)
   unfolding step unchanged obey act performed early
   transitions-refuse target high low =
       let r : Performed = perform (readyAct prims map m (Transition target high low)) (m .lent .copy) (m .lent .cells) in
@@ -207,10 +182,3 @@ module _ (prims : Primitives) (map : Map) (m : Machine) where
       if-both Transited _ _ _ (λ e. ((λ j. refl), λ j. absurd (true-not-false refl j)))
       λ e. if-both Transited _ _ _ (λ e. ((λ j. refl), λ j. absurd (true-not-false refl j)))
       λ e. ((λ j. same-machine prims map m r (ended .0 j .0) (ended .0 j .1)), λ j. (refl, ended .1 j .0, ended .1 j .1))
-
-pub refusals : (prims : Primitives) (map : Map) → Refusals prims map
-refusals prims map = record {
-  commands = commands-refuse prims map;
-  powerUps = power-ups-refuse prims map;
-  transitions = transitions-refuse prims map;
-}

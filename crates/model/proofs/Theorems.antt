@@ -1,12 +1,15 @@
--- Demand 3 and what goes beyond it, for every cipher with the two laws and every fit map: each part is cited from its own file.
+-- Refusals, demand 3 and what goes beyond it, for every cipher with the two laws and every fit map: each part is cited from its own file.
 use mathlib.Core.Path.{_≡_}
 use mathlib.Core.Bool.{true}
 use Rattle.partitions.specs.Map.{Map}
 use Rattle.partitions.specs.Fitness.{fit}
 use Rattle.model.specs.Lent.{Primitives}
 use Rattle.model.specs.Terms.{Cipher}
+use Rattle.model.specs.Refusals.{Refusals}
 use Rattle.model.specs.Demand3.{Demand3}
 use Rattle.model.specs.Beyond.{Beyond}
+use Rattle.model.proofs.Refusals.{commands-refuse, power-ups-refuse, transitions-refuse}
+use Rattle.model.proofs.Deaths.{deaths-told}
 use Rattle.model.proofs.Steps.{bits-stay}
 use Rattle.model.proofs.Locks.{locked-since}
 use Rattle.model.proofs.Writes.{write-taken, reads-back, reads-last}
@@ -14,6 +17,14 @@ use Rattle.model.proofs.Chips.{two-chips}
 use Rattle.model.proofs.Strokes.{never-four, courses-run}
 use Rattle.model.proofs.Device.{device-final}
 use Rattle.model.proofs.Quiet.{after-unsensed}
+
+pub refusals : (prims : Primitives) (map : Map) → Refusals prims map
+refusals prims map = record {
+  commands = commands-refuse prims map;
+  powerUps = power-ups-refuse prims map;
+  transitions = transitions-refuse prims map;
+  deaths = λ m x reason. deaths-told prims map m reason x;
+}
 
 pub demand3 : (prims : Primitives) → Cipher prims → (map : Map) → fit map ≡ true → Demand3 prims map
 demand3 prims C map F = record {

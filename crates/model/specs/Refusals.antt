@@ -6,12 +6,13 @@ use mathlib.Core.Bool.{Bool, true, false, _||_}
 use lib.Dec.{eqb}
 use Rattle.basics.specs.Choice.{if_then_else_}
 use Rattle.partitions.specs.Map.{Map}
+use Rattle.model.specs.declared.Reason.{Reason}
 use Rattle.model.specs.declared.Reason.the-variants.{BitCleared}
 use Rattle.model.specs.declared.Phase.{Phase}
 use Rattle.model.specs.declared.Phase.the-variants.{Inert, Dead}
 use Rattle.model.specs.declared.Command.{Command}
 use Rattle.model.specs.declared.Command.the-variants.{Transition, PowerUp}
-use Rattle.model.specs.Session.{inPhase}
+use Rattle.model.specs.Session.{reasonCode, inPhase}
 use Rattle.model.specs.Answers.{codeOf}
 use Rattle.model.specs.Lent.{Machine, Primitives}
 use Rattle.model.specs.Step.{machineAfter, answerTo}
@@ -46,3 +47,6 @@ module _ (prims : Primitives) (map : Map) where
         → (machineAfter prims map x m .lent .copy ≡ m .lent .copy)
         × (machineAfter prims map x m .session ≡ inPhase (phaseAfter code) (m .session))
         × (code ≡ 0x20 → machineAfter prims map x m .lent .cells ≡ m .lent .cells))
+    -- a command that changes something and leaves the phase Dead has answered the reason
+    pub deaths : (m : Machine) (x : Command) (reason : Reason) → (machineAfter prims map x m ≡ m → ⊥)
+        → machineAfter prims map x m .session .phase ≡ Dead reason → codeOf (answerTo prims map x m) ≡ reasonCode reason

@@ -4,9 +4,17 @@ use mathlib.Core.Bool.{Bool, true, false, not}
 use mathlib.Core.List.{[], _∷_}
 use lib.Dec.{eqb}
 use lib.ListN.{getD, set}
+use Rattle.model.specs.declared.Reason.{Reason}
+use Rattle.model.specs.declared.Reason.the-variants.{BitCleared, DigestFailed, LifeCycleFailed}
 use Rattle.model.specs.declared.Phase.{Phase}
 use Rattle.model.specs.declared.Phase.the-variants.{Off, Ready, Inert, Dead}
 use Rattle.model.specs.declared.Session.{Session}
+
+-- "a dead phase carries its reason (4, 6 or 7)"
+abbrev pub reasonCode : Reason → ℕ
+reasonCode BitCleared = 4
+reasonCode DigestFailed = 6
+reasonCode LifeCycleFailed = 7
 
 -- "A fresh record is Off, all else zero."
 abbrev pub freshSession : Session
