@@ -61,7 +61,8 @@ within-map f says = says
 within-map f (programs h next) = programs (λ j l u. f j (h j l u)) (within-map f next)
 within-map f (compares same other) = compares (within-map f same) (within-map f other)
 
-pub perform-frame : {P : ℕ → Type 0} {x : Act} → Within P x → (copy cells : List ℕ) (j : ℕ) → (P j → ⊥) → getD (perform x copy cells .cells) j 0 ≡ getD cells j 0
+pub perform-frame : {P : ℕ → Type 0} {x : Act} → Within P x → (copy cells : List ℕ) (j : ℕ) → (P j → ⊥)
+    → getD (perform x copy cells .cells) j 0 ≡ getD cells j 0
 unfolding perform noting
 perform-frame says copy cells j h = refl
 perform-frame (programs {at = at} {words = words} inside next) copy cells j h =

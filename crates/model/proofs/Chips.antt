@@ -152,7 +152,8 @@ module _ (prims : Primitives) (map : Map) (F : fit map ≡ true) (H : ℕ → Ty
         record { shows = λ v u. true-not-false (rw e (word-inside map F l lo hi .side ∙ i)) u }
 
     -- data of an unlocked partition shows
-    data-shown : (a j : ℕ) → a < limit map → isReady (s .phase) ≡ true → (rightsOf (partitionAt map a .kind) .scrambled && sensedLocked s (numberAt map a)) ≡ false
+    data-shown : (a j : ℕ) → a < limit map → isReady (s .phase) ≡ true
+        → (rightsOf (partitionAt map a .kind) .scrambled && sensedLocked s (numberAt map a)) ≡ false
         → firstWord (partitionAt map a) a ≤ j → j < firstWord (partitionAt map a) a + wordCount (partitionAt map a) a → Shown map H j
     unfolding partitionAt
     data-shown a j l r z lo hi =
@@ -163,7 +164,8 @@ module _ (prims : Primitives) (map : Map) (F : fit map ≡ true) (H : ℕ → Ty
     front-same a l f =
         ap numberOf (part-same k k′ _ _ (λ j lo hi. g .at j (record { low = omega (arith, granule-within map F l); front = rw (word-number map F l lo hi) f })))
 
-    computed-same : (a : ℕ) → a < limit map → (H (numberAt map a) → ⊥) → computedDigest prims map t (partitionAt map a) c ≡ computedDigest prims map t (partitionAt map a) d
+    computed-same : (a : ℕ) → a < limit map → (H (numberAt map a) → ⊥)
+        → computedDigest prims map t (partitionAt map a) c ≡ computedDigest prims map t (partitionAt map a) d
     unfolding computedDigest dataWords partitionAt
     computed-same a l n =
         let i = numberAt map a in
@@ -200,12 +202,14 @@ front-shown map H secret j f = record { shows = λ v u. true-not-false (secret _
 
 module _ (prims : Primitives) (map : Map) where
   -- a word that front reads see is latched as it stands
-  pub front-latched : (constants cells : List ℕ) (j : ℕ) → rightsOf (partitionAt map (2 * j) .kind) .front ≡ true → copyWord prims map constants cells j ≡ getD cells j 0
+  pub front-latched : (constants cells : List ℕ) (j : ℕ) → rightsOf (partitionAt map (2 * j) .kind) .front ≡ true
+      → copyWord prims map constants cells j ≡ getD cells j 0
   unfolding copyWord
   front-latched constants cells j f =
       if-false _ _ (not-passed _ (λ t. true-not-false (front-hardware _ f) (lockable-not-hardware _ t))) ∙ rw (front-not-scrambled _ f) (if-false _ _ refl)
 
-  digests-same : (f g : Partition → ℕ) (ps : Map) → ((n : ℕ) → n < length ps → rightsOf (partition ps n .kind) .direct ≡ true → f (partition ps n) ≡ g (partition ps n)) → digests f ps ≡ digests g ps
+  digests-same : (f g : Partition → ℕ) (ps : Map)
+      → ((n : ℕ) → n < length ps → rightsOf (partition ps n .kind) .direct ≡ true → f (partition ps n) ≡ g (partition ps n)) → digests f ps ≡ digests g ps
   unfolding digests partition
   digests-same f g [] h = refl
   digests-same f g (p ∷ ps) h =
@@ -322,7 +326,8 @@ module _ (prims : Primitives) (map : Map) (F : fit map ≡ true) (H : ℕ → Ty
       go j (unlocked r d z aim) = record { shows = λ v u. h .locks _ v .felt r z }
       go j (lifeCycle r t e) = closed-shown j e
 
-  act-pair : (x : Command) (m n : Machine) → Pair m n → Agree (act prims map x m .compared) (act prims map x n .compared) → SamePair (act prims map x m) (act prims map x n)
+  act-pair : (x : Command) (m n : Machine) → Pair m n → Agree (act prims map x m .compared) (act prims map x n .compared)
+      → SamePair (act prims map x m) (act prims map x n)
   unfolding act performed
   act-pair x m n h g =
       let e = decided x m n h in

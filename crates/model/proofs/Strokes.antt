@@ -76,12 +76,14 @@ pub data Moved (prims : Primitives) (map : Map) (m : Machine) (target : ℕ) (r 
   spent : lifeCycleIn prims map (m .lent) ≡ Valid (m .session .state) (m .session .count) → m .session .count < 24
       → r .cells ≡ programCells (m .lent .cells) (counterAt prims map) (counterWords (m .lent .constants) (suc (m .session .count)))
       → stops (r .turn) → (codeOf (r .answer) ≡ 0x04 → ⊥) → Moved prims map m target r
-  reached : {token : Token} → lifeCycleIn prims map (m .lent) ≡ Valid (m .session .state) (m .session .count) → m .session .count < 24 → transition (m .session .state) target ≡ Allowed token
+  reached : {token : Token} → lifeCycleIn prims map (m .lent) ≡ Valid (m .session .state) (m .session .count) → m .session .count < 24
+      → transition (m .session .state) target ≡ Allowed token
       → r .cells ≡ programCells (programCells (m .lent .cells) (counterAt prims map) (counterWords (m .lent .constants) (suc (m .session .count))))
       (stateAt prims map) (stateWords (m .lent .constants) target)
       → stops (r .turn) → (codeOf (r .answer) ≡ 0x04 → ⊥) → Moved prims map m target r
 
-noted : (prims : Primitives) (map : Map) (m : Machine) (target : ℕ) (b : Bool) (r : Performed) → Moved prims map m target r → Moved prims map m target (noting b r)
+noted : (prims : Primitives) (map : Map) (m : Machine) (target : ℕ) (b : Bool) (r : Performed) → Moved prims map m target r
+    → Moved prims map m target (noting b r)
 unfolding noting
 noted prims map m target b r (still e f) = still e f
 noted prims map m target b r (spent v l e s f) = spent v l e s f
@@ -113,7 +115,8 @@ module _ (prims : Primitives) (map : Map) (F : fit map ≡ true) (m : Machine) (
       part-same cells₁ (m .lent .cells) _ 20 (λ j l u. program-elsewhere (m .lent .cells) counter (counterAt prims map) j (λ a b. omega (arith, counter-length k (suc (m .session .count)))))
       ∙ says .1
 
-  move-fits : (target : ℕ) {token : Token} → transition (m .session .state) target ≡ Allowed token → programAnswer cells₁ (stateAt prims map) (stateWords k target) ≡ programmed.Done
+  move-fits : (target : ℕ) {token : Token} → transition (m .session .state) target ≡ Allowed token
+      → programAnswer cells₁ (stateAt prims map) (stateWords k target) ≡ programmed.Done
   move-fits target a = transition-done k (r .valid) cells₁ (stateAt prims map) (m .session .state) target state-stays a
 
   module _ (target : ℕ) where
@@ -128,7 +131,8 @@ module _ (prims : Primitives) (map : Map) (F : fit map ≡ true) (m : Machine) (
     unfolding moveAct perform afterProgram
     move-ok a = rw (move-fits target a) (reached live room a refl halt-stops (eqb-false _ _ refl))
 
-    compared-ok : {token : Token} → transition (m .session .state) target ≡ Allowed token → (test : List ℕ → Bool) (answer : Answer) → eqb (codeOf answer) 0x04 ≡ false
+    compared-ok : {token : Token} → transition (m .session .state) target ≡ Allowed token → (test : List ℕ → Bool) (answer : Answer)
+        → eqb (codeOf answer) 0x04 ≡ false
         → Ok (perform (compare test (moveAct prims map m target) (say answer halt)) (m .lent .copy) cells₁)
     unfolding perform
     compared-ok a test answer t = noted prims map m target _ _ (if-both Ok _ _ _ (λ e. move-ok a) (λ e. said answer t))
@@ -139,7 +143,8 @@ module _ (prims : Primitives) (map : Map) (F : fit map ≡ true) (m : Machine) (
     locked-ok token given a =
         if-both (λ (x : Act). Ok (perform x (m .lent .copy) cells₁)) _ _ _ (λ e. said TokenNotLocked refl) (λ e. compared-ok a _ TokenDiffers refl)
 
-    token-ok : (token : Token) (given : ℕ) → transition (m .session .state) target ≡ Allowed token → Ok (perform (tokenAct prims map m token target given) (m .lent .copy) cells₁)
+    token-ok : (token : Token) (given : ℕ) → transition (m .session .state) target ≡ Allowed token
+        → Ok (perform (tokenAct prims map m token target given) (m .lent .copy) cells₁)
     unfolding tokenAct
     token-ok Nothing given a = move-ok a
     token-ok RawUnlock given a = compared-ok a _ TokenDiffers refl
@@ -251,7 +256,8 @@ module _ (prims : Primitives) (map : Map) (F : fit map ≡ true) where
     pub course : Course (lifeCycleIn prims map (m .lent)) (lifeCycleIn prims map (s .result .machine .lent))
     pub living : Living prims map (s .result .machine)
 
-  same-goes : (m : Machine) (s : Step) → lifeCycleIn prims map (s .result .machine .lent) ≡ lifeCycleIn prims map (m .lent) → Living prims map (s .result .machine) → Goes m s
+  same-goes : (m : Machine) (s : Step) → lifeCycleIn prims map (s .result .machine .lent) ≡ lifeCycleIn prims map (m .lent)
+      → Living prims map (s .result .machine) → Goes m s
   same-goes m s e l = record { course = rw e stays; living = l }
 
   -- an act that leaves the life cycle words
@@ -337,7 +343,8 @@ module _ (prims : Primitives) (map : Map) (F : fit map ≡ true) where
   moved-not-four m target (spent v l e h f) = f
   moved-not-four m target (reached v l a e h f) = f
 
-  living-not-four : (m : Machine) → Right map m → Living prims map m → (target high low : ℕ) → codeOf (answerTo prims map (Transition target high low) m) ≡ 0x04 → ⊥
+  living-not-four : (m : Machine) → Right map m → Living prims map m → (target high low : ℕ)
+      → codeOf (answerTo prims map (Transition target high low) m) ≡ 0x04 → ⊥
   unfolding obey act performed
   living-not-four m r live target high low = rw (step-obeys prims map (Transition target high low) m r, answerTo) (moved-not-four m target (transition-moves m r live target high low))
 

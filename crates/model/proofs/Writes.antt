@@ -257,7 +257,8 @@ module _ (prims : Primitives) (C : Cipher prims) (map : Map) (F : fit map ≡ tr
             soft : rightsOf (p .kind) .hardware ≡ false
             soft = rw same-partition (not-passed _ (λ h. true-not-false (and-both _ _ h (sym same-side ∙ t)) open?))
 
-            plain : rightsOf (p .kind) .scrambled ≡ false → unscrambled prims map (m .lent .constants) p (granule p (m .lent .cells) b) ≡ granule p (m .lent .cells) b
+            plain : rightsOf (p .kind) .scrambled ≡ false
+                → unscrambled prims map (m .lent .constants) p (granule p (m .lent .cells) b) ≡ granule p (m .lent .cells) b
             plain q = unfold unscrambled in (if-false _ _ q)
 
         -- on a chip that is Ready since a power-up that found the partition open, a read answers 0 and the data used
@@ -281,7 +282,8 @@ module _ (prims : Primitives) (C : Cipher prims) (map : Map) (F : fit map ≡ tr
         read-back c₀ f z k = rw (step-act prims map (Read b) m r tt, answerTo, read-act c₀ f z k)
 
     -- on any chip, a read that answers 0 answers the data used
-    read-shows : (m : Machine) → Right map m → (value : ℕ) → value < 2 ^ 64 → partAt (m .lent .cells) first count ≡ storedWords prims map (m .lent .constants) a value
+    read-shows : (m : Machine) → Right map m → (value : ℕ) → value < 2 ^ 64
+        → partAt (m .lent .cells) first count ≡ storedWords prims map (m .lent .constants) a value
         → (b shown : ℕ) → firstWord (partitionAt map b) b ≡ first → outcome prims map (Read b) m .answer ≡ Done shown → shown ≡ usedValue map a value
     unfolding readyAct commandAct readAct perform
     read-shows m r value v held b shown same =
@@ -294,7 +296,8 @@ module _ (prims : Primitives) (C : Cipher prims) (map : Map) (F : fit map ≡ tr
         Q : Act → Type 0
         Q x = perform x (m .lent .copy) (m .lent .cells) .answer ≡ Done shown → shown ≡ usedValue map a value
 
-    read-lasts : (m : Machine) → Right map m → (value : ℕ) → value < 2 ^ 64 → partAt (m .lent .cells) first count ≡ storedWords prims map (m .lent .constants) a value
+    read-lasts : (m : Machine) → Right map m → (value : ℕ) → value < 2 ^ 64
+        → partAt (m .lent .cells) first count ≡ storedWords prims map (m .lent .constants) a value
         → (b shown : ℕ) → firstWord (partitionAt map b) b ≡ first → answerTo prims map (Read b) m ≡ Done shown → shown ≡ usedValue map a value
     unfolding act performed
     read-lasts m r value v held b shown same = rw (step-act prims map (Read b) m r tt, answerTo) (read-shows m r value v held b shown same)
