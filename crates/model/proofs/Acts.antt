@@ -85,7 +85,8 @@ pub perform-gives : {T : Answer → Turn → Type 0} {x : Act} → Gives T x →
 unfolding perform noting
 perform-gives (Gives.says h) copy cells = h
 perform-gives {T} (Gives.programs {at = at} {words = words} refused next) copy cells =
-    after-both (λ (r : Performed). T (r .answer) (r .turn)) (programAnswer cells at words) _ _ (λ e. perform-gives next copy (programCells cells at words)) (λ cell e. refused cell)
+    after-both (λ (r : Performed). T (r .answer) (r .turn)) (programAnswer cells at words) _ _
+    (λ e. perform-gives next copy (programCells cells at words)) (λ cell e. refused cell)
 perform-gives {T} (Gives.compares {test = test} same other) copy cells =
     if-both (λ (r : Performed). T (r .answer) (r .turn)) _ _ _ (λ e. perform-gives same copy cells) (λ e. perform-gives other copy cells)
 

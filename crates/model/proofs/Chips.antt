@@ -100,7 +100,8 @@ perform-twin {P} (programs {at = at} {words = words} inside next) k k′ c d e h
     let q : programAnswer c at words ≡ programAnswer d at words = answer-same words c d at (λ j l u. h .at j (inside j l u)) in
     rw (← q)
     (after-twin (Twin P) (programAnswer c at words) _ _ _ _
-    (perform-twin next k k′ (programCells c at words) (programCells d at words) (rw (program-length c words at, program-length d words at) e) (program-alike words c d at e h q))
+    (perform-twin next k k′ (programCells c at words) (programCells d at words) (rw (program-length c words at, program-length d words at) e)
+    (program-alike words c d at e h q))
     (λ cell g. record { answer = refl; turn = refl; cells = h }))
 perform-twin {P} (compares {test = test} same other) k k′ c d e h = λ g.
     let r = if-twin (Twin P) _ _ _ _ (g .0) (perform-twin same k k′ c d e h) (perform-twin other k k′ c d e h) (g .1) in
@@ -157,7 +158,8 @@ module _ (prims : Primitives) (map : Map) (F : fit map ≡ true) (H : ℕ → Ty
         → firstWord (partitionAt map a) a ≤ j → j < firstWord (partitionAt map a) a + wordCount (partitionAt map a) a → Shown map H j
     unfolding partitionAt
     data-shown a j l r z lo hi =
-        open-shown (numberAt map a) j (λ v. shut (numberAt map a) v r (not-locked s (numberAt map a) (rw (secret (numberAt map a) v) at z))) (word-number map F l lo hi)
+        let n = numberAt map a in
+        open-shown n j (λ v. shut n v r (not-locked s n (rw (secret n v) at z))) (word-number map F l lo hi)
 
     front-same : (a : ℕ) → a < limit map → rightsOf (partitionAt map a .kind) .front ≡ true → granule (partitionAt map a) k a ≡ granule (partitionAt map a) k′ a
     unfolding granule partitionAt
@@ -181,7 +183,8 @@ module _ (prims : Primitives) (map : Map) (F : fit map ≡ true) (H : ℕ → Ty
     command-same (Read a) r = if-same (λ e. refl) λ l. if-same (λ e. refl) λ e. if-same
         (λ i. ap (λ (x : ℕ). say (Done x) stay) (granule-same a (leb-false _ _ l) (λ j lo hi. digest-shown a j (leb-false _ _ l) i lo hi)))
         λ i. if-same (λ e. refl) λ e. if-same (λ e. refl)
-        λ z. ap (λ (x : ℕ). say (Done (unscrambled prims map t (partitionAt map a) x)) stay) (granule-same a (leb-false _ _ l) (λ j lo hi. data-shown a j (leb-false _ _ l) r z lo hi))
+        λ z. ap (λ (x : ℕ). say (Done (unscrambled prims map t (partitionAt map a) x)) stay)
+        (granule-same a (leb-false _ _ l) (λ j lo hi. data-shown a j (leb-false _ _ l) r z lo hi))
     command-same (FrontRead a) r = if-same (λ t. refl) λ l. if-same (λ t. refl) λ f. if-same (λ t. refl) λ i.
         ap (λ (x : ℕ). say (Done x) stay) (front-same a (leb-false _ _ l) (not-false _ f))
     command-same (Digest a) r = if-same (λ t. refl) λ l. if-same (λ t. refl) λ f. if-same (λ t. refl) λ i. if-same (λ t. refl) λ z.
@@ -274,7 +277,8 @@ module _ (prims : Primitives) (map : Map) (F : fit map ≡ true) (H : ℕ → Ty
       → wokenSession prims map w (record { cells = c; copy = k; constants = t }) ≡ wokenSession prims map w (record { cells = d; copy = k′; constants = t })
   unfolding wokenSession
   woken-records (fails reason answer) c d k k′ t h = refl
-  woken-records (wakes state count) c d k k′ t h = rw (digests-same prims map (λ p. storedDigest p c) (λ p. storedDigest p d) map (λ n l e. stored-alike c d h n l e))
+  woken-records (wakes state count) c d k k′ t h =
+      rw (digests-same prims map (λ p. storedDigest p c) (λ p. storedDigest p d) map (λ n l e. stored-alike c d h n l e))
 
   up-made : (c d k k′ t : List ℕ) (s s′ : Session) → Right map (made c k t s) → Right map (made d k′ t s′) → Same (Shown map H) c d
       → ((p : ℕ) → H p → storedDigest (partition map p) c ≡ 0 → ⊥)
@@ -316,7 +320,8 @@ module _ (prims : Primitives) (map : Map) (F : fit map ≡ true) (H : ℕ → Ty
   decided x m n h =
       subst (λ (t : List ℕ). readyAct prims map (made (n .lent .cells) (n .lent .copy) t (n .session)) x ≡ readyAct prims map m x) (h .constants)
       (subst (λ (s : Session). readyAct prims map (made (n .lent .cells) (n .lent .copy) (m .lent .constants) s) x ≡ readyAct prims map m x) (h .records)
-      (sym (decided-same prims map F H known secret (m .session) (λ p v. h .locks p v .felt) (m .lent .cells) (n .lent .cells) (m .lent .copy) (n .lent .copy) (m .lent .constants) (h .fuses) (h .views) x)))
+      (sym (decided-same prims map F H known secret (m .session) (λ p v. h .locks p v .felt) (m .lent .cells) (n .lent .cells) (m .lent .copy) (n .lent .copy)
+      (m .lent .constants) (h .fuses) (h .views) x)))
 
   -- no hidden word is programmed
   shown-within : (x : Command) (m n : Machine) → Pair m n → Within (Shown map H) (readyAct prims map m x)
@@ -372,6 +377,12 @@ pub two-chips : (prims : Primitives) (map : Map) → fit map ≡ true → (m n :
 unfolding answers after Matched
 two-chips prims map F m n r r′ e h l g =
     let H = Hidden map (m .lent .cells) (n .lent .cells) in
-    let o = first-pair prims map F H (λ p v. v .known) (λ p v. v .secret) m n r r′ (record { at = λ j q. h .at j (λ w. q .shows (w .hidden) (w .isData)) }) e (λ p v. v .nonzero) (g .1) in
-    let t = after-pair prims map F H (λ p v. v .known) (λ p v. v .secret) l (machineAfter prims map PowerUp m) (machineAfter prims map PowerUp n) (o .pair) (g .2) in
-    (ap₂ (λ (a : Answer) (rest : List Answer). a ∷ rest) (o .answer) (t .0), t .1 .records, record { at = λ j q. t .1 .fuses .at j (record { shows = λ v u. q (record { hidden = v; isData = u }) }) })
+    let same : Same (Shown map H) (m .lent .cells) (n .lent .cells) = record { at = λ j q. h .at j (λ w. q .shows (w .hidden) (w .isData)) } in
+    let o = first-pair prims map F H (λ p v. v .known) (λ p v. v .secret) m n r r′ same e (λ p v. v .nonzero) (g .1) in
+    let m₁ = machineAfter prims map PowerUp m in
+    let n₁ = machineAfter prims map PowerUp n in
+    let t = after-pair prims map F H (λ p v. v .known) (λ p v. v .secret) l m₁ n₁ (o .pair) (g .2) in (
+      ap₂ (λ (a : Answer) (rest : List Answer). a ∷ rest) (o .answer) (t .0),
+      t .1 .records,
+      record { at = λ j q. t .1 .fuses .at j (record { shows = λ v u. q (record { hidden = v; isData = u }) }) },
+    )

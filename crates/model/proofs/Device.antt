@@ -52,7 +52,8 @@ module _ (prims : Primitives) (map : Map) where
 
 -- ---- what the copy holds of a partition that was found locked over the cells c₁
 
-module _ (prims : Primitives) (map : Map) (F : fit map ≡ true) (n : ℕ) (D : Digested map n) (front : rightsOf (partition map n .kind) .front ≡ true) (c₁ : List ℕ) where
+module _ (prims : Primitives) (map : Map) (F : fit map ≡ true) (n : ℕ) (D : Digested map n)
+    (front : rightsOf (partition map n .kind) .front ≡ true) (c₁ : List ℕ) where
   record Latched (m : Machine) : Type 0 where
     locked : Locked prims map F n D m
     same : SamePartition map n c₁ (m .lent .cells)
@@ -70,7 +71,8 @@ module _ (prims : Primitives) (map : Map) (F : fit map ≡ true) (n : ℕ) (D : 
           let f = partition-fit map F (D .known) in
           let low : j < limit map / 2 = omega (arith, end-within map F (D .known), f .end-aligned) in
           let p = partition-at map (2 * j) (only map F (D .known) from upto) in
-          h .at j from upto ∙ sym (listed-at (copyWord prims map (l .constants) (l .cells)) 0 (limit map / 2) j low ∙ front-latched prims map (l .constants) (l .cells) j (rw p front))
+          h .at j from upto
+          ∙ sym (listed-at (copyWord prims map (l .constants) (l .cells)) 0 (limit map / 2) j low ∙ front-latched prims map (l .constants) (l .cells) j (rw p front))
 
   up-latched : (m : Machine) → (storedDigest (partition map n) (m .lent .cells) ≡ 0 → ⊥) → SamePartition map n c₁ (m .lent .cells)
       → Latched (poweredUp prims map m)
@@ -104,7 +106,8 @@ module _ (prims : Primitives) (map : Map) (F : fit map ≡ true) (n : ℕ) (D : 
   unfolding granule
   seen-same m h a value e s =
       let p = partition-at map a e in
-      s .shown ∙ ap numberOf (part-same (m .lent .copy) c₁ _ _ (λ j from upto. sym (h .held (s .awake) .at j (inside j from upto .0) (inside j from upto .1)))) ∙ rw p
+      let same = h .held (s .awake) in
+      s .shown ∙ ap numberOf (part-same (m .lent .copy) c₁ _ _ (λ j from upto. sym (same .at j (inside j from upto .0) (inside j from upto .1)))) ∙ rw p
     where
       inside : (j : ℕ) → firstWord (partitionAt map a) a ≤ j → j < firstWord (partitionAt map a) a + wordCount (partitionAt map a) a
           → (partition map n .start ≤ 2 * j) × (2 * j < partition map n .end)

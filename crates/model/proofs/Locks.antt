@@ -58,7 +58,8 @@ module _ (f : Partition → ℕ) where
   unfolding digests partition
   digests-at [] n l h = absurd (omega arith)
   digests-at (p ∷ ps) zero l h = rw (if-true (f p ∷ digests f ps) (digests f ps) (h 0 (omega arith)))
-  digests-at (p ∷ ps) (suc n) l h = rw (if-true (f p ∷ digests f ps) (digests f ps) (h 0 (omega arith))) (digests-at ps n (omega arith) (λ i k. h (suc i) (omega arith)))
+  digests-at (p ∷ ps) (suc n) l h =
+      rw (if-true (f p ∷ digests f ps) (digests f ps) (h 0 (omega arith))) (digests-at ps n (omega arith) (λ i k. h (suc i) (omega arith)))
 
 module _ (prims : Primitives) (map : Map) (F : fit map ≡ true) (n : ℕ) (D : Digested map n) where
   -- every partition up to one with a digest has one

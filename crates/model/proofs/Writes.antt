@@ -137,7 +137,9 @@ module _ (prims : Primitives) (C : Cipher prims) (map : Map) (F : fit map ≡ tr
       vs = storedWords prims map (m .lent .constants) a value
 
       held : partAt (programCells (m .lent .cells) i vs) i (wordCount (partitionAt map a) a) ≡ vs
-      held = rw length-words at (program-takes (m .lent .cells) vs i (rw length-words (omega (arith, granule-within map F (al .below), cells-length prims map m (f .right)))) (al .keeps))
+      held =
+          let inside = granule-within map F (al .below) in
+          rw length-words at (program-takes (m .lent .cells) vs i (rw length-words (omega (arith, inside, cells-length prims map m (f .right)))) (al .keeps))
 
   -- ---- what leaves the granule alone
 
@@ -203,7 +205,8 @@ module _ (prims : Primitives) (C : Cipher prims) (map : Map) (F : fit map ≡ tr
         → partAt (machineAfter prims map x m .lent .cells) first count ≡ partAt (m .lent .cells) first count
     unfolding unchanged powerUp act performed
     step-stays x m =
-        step-all prims map (λ (s : Step). spares map a x (s .result .answer) → partAt (s .result .machine .lent .cells) first count ≡ partAt (m .lent .cells) first count) x m
+        step-all prims map
+        (λ (s : Step). spares map a x (s .result .answer) → partAt (s .result .machine .lent .cells) first count ≡ partAt (m .lent .cells) first count) x m
         (λ answer sp. refl) (λ sp. refl) (λ sp. part-same _ (m .lent .cells) first count (word-stays x m sp))
 
     -- while no write to the granule answers 0, its words stay, through power-ups and transitions too
