@@ -10,5 +10,6 @@ pub mod Device
 pub mod Quiet
 pub mod Theorems
 pub mod Everything
+pub mod LifeCyclePlace
 pub mod Cases
 pub mod Examples

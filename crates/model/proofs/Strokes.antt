@@ -13,7 +13,6 @@ use Rattle.basics.proofs.Choice.{true-not-false, if-both}
 use Rattle.words.specs.declared.Programmed.the-variants as programmed
 use Rattle.words.specs.Words.{partAt}
 use Rattle.words.specs.Programming.{programAnswer, programCells}
-use Rattle.words.proofs.Words.{Words}
 use Rattle.words.proofs.Parts.{part-same}
 use Rattle.words.proofs.Programming.{program-elsewhere, program-takes, program-length}
 use Rattle.partitions.specs.declared.Kind.the-variants as kind

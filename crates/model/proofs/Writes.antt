@@ -3,15 +3,14 @@
 use mathlib.Core.Path.{_≡_, refl, sym, ap, ap₂, _∙_}
 use mathlib.Core.Bool.{Bool, true, false, not, _&&_}
 use mathlib.Core.List.{List, [], _∷_}
-use Prim.Native.Nat.{ℕ, _+_, _*_, _^_, _≤_, _<_}
+use Prim.Native.Nat.{ℕ, zero, suc, _+_, _*_, _^_, _≤_, _<_}
 use native.Mathlib.Nat.{mod-eq-of-lt}
 use native.Mathlib.Omega.{arith}
-use lib.Dec.{ltb, lit<}
-use lib.ListN.{getD, List·getD-eq-default}
-use borrow.Author.Tests.{leb-false, lt-leb, eq-eqb, ltb-true, ltb-false}
+use lib.Dec.{lit<}
+use lib.ListN.{getD}
+use borrow.Author.Tests.{leb-false, lt-leb, eq-eqb}
 use Rattle.basics.specs.Range.{listed}
 use Rattle.basics.proofs.Choice.{by-cases, true-not-false, not-passed, and-both, if-true, if-false, if-both}
-use Rattle.basics.proofs.Range.{listed-from, length-listed}
 use Rattle.words.specs.Words.{numberOf, wordsOf, partAt}
 use Rattle.words.specs.Programming.{programAnswer, programCells}
 use Rattle.words.proofs.Words.{Words, length-words, number-lt, number-words}
@@ -43,18 +42,17 @@ use Rattle.model.proofs.Ready.{step-act, Fresh, first-fresh, step-fresh
 
 -- ---- keys fit, so scrambling can be undone
 
-part-small : (c : List ℕ) (at n : ℕ) → ((i : ℕ) → getD c i 0 < 65536) → Words (partAt c at n)
-unfolding partAt
-part-small c at n h = record { small = λ i. by-cases (ltb i n) (here i) (past i) }
+pub small-part : {cells : List ℕ} → Words cells → (at n : ℕ) → Words (partAt cells at n)
+unfolding partAt listed
+small-part w at n = record { small = small w at n }
   where
-    here : (i : ℕ) → ltb i n ≡ true → getD (listed (λ j. getD c j 0) at n) i 0 < 65536
-    here i t = rw (listed-from (λ j. getD c j 0) 0 at n i (ltb-true _ _ t)) (h (at + i))
-
-    past : (i : ℕ) → ltb i n ≡ false → getD (listed (λ j. getD c j 0) at n) i 0 < 65536
-    past i t = rw (List·getD-eq-default (listed (λ j. getD c j 0) at n) 0 {n = i} (rw (length-listed (λ j. getD c j 0) at n) (ltb-false _ _ t))) (lit< tt)
+    small : {cells : List ℕ} → Words cells → (at n i : ℕ) → getD (listed (λ j. getD cells j 0) at n) i 0 < 65536
+    small w at zero i = omega arith
+    small w at (suc n) zero = w .small at
+    small w at (suc n) (suc i) = small w (suc at) n i
 
 eight-words : (c : List ℕ) (at : ℕ) → ((i : ℕ) → getD c i 0 < 65536) → numberOf (partAt c at 8) < 2 ^ 128
-eight-words c at h = rw length-part at (number-lt (partAt c at 8) (part-small c at 8 h))
+eight-words c at h = rw length-part at (number-lt (partAt c at 8) (small-part (record { small = h }) at 8))
 
 key-fits : (c : List ℕ) (k : Kind) → ((i : ℕ) → getD c i 0 < 65536) → keyOf c k < 2 ^ 128
 unfolding keyOf
