@@ -61,7 +61,8 @@ within-map f says = says
 within-map f (programs h next) = programs (λ j l u. f j (h j l u)) (within-map f next)
 within-map f (compares same other) = compares (within-map f same) (within-map f other)
 
-pub perform-frame : {P : ℕ → Type 0} {x : Act} → Within P x → (copy cells : List ℕ) (j : ℕ) → (P j → ⊥) → getD (perform x copy cells .cells) j 0 ≡ getD cells j 0
+pub perform-frame : {P : ℕ → Type 0} {x : Act} → Within P x → (copy cells : List ℕ) (j : ℕ) → (P j → ⊥)
+    → getD (perform x copy cells .cells) j 0 ≡ getD cells j 0
 unfolding perform noting
 perform-frame says copy cells j h = refl
 perform-frame (programs {at = at} {words = words} inside next) copy cells j h =
@@ -87,7 +88,8 @@ pub perform-gives : {T : Answer → Turn → Type 0} {x : Act} → Gives T x →
 unfolding perform noting
 perform-gives (Gives.says h) copy cells = h
 perform-gives {T} (Gives.programs {at = at} {words = words} refused next) copy cells =
-    after-both (λ (r : Performed). T (r .answer) (r .turn)) (programAnswer cells at words) _ _ (λ e. perform-gives next copy (programCells cells at words)) (λ cell e. refused cell)
+    after-both (λ (r : Performed). T (r .answer) (r .turn)) (programAnswer cells at words) _ _
+    (λ e. perform-gives next copy (programCells cells at words)) (λ cell e. refused cell)
 perform-gives {T} (Gives.compares {test = test} same other) copy cells =
     if-both (λ (r : Performed). T (r .answer) (r .turn)) _ _ _ (λ e. perform-gives same copy cells) (λ e. perform-gives other copy cells)
 

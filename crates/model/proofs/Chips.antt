@@ -99,7 +99,8 @@ perform-twin {P} (programs {at = at} {words = words} inside next) k k′ c d e h
     let q : programAnswer c at words ≡ programAnswer d at words = answer-same words c d at (λ j l u. h .at j (inside j l u)) in
     rw (← q)
     (after-twin (Twin P) (programAnswer c at words) _ _ _ _
-    (perform-twin next k k′ (programCells c at words) (programCells d at words) (rw (program-length c words at, program-length d words at) e) (program-alike words c d at e h q))
+    (perform-twin next k k′ (programCells c at words) (programCells d at words) (rw (program-length c words at, program-length d words at) e)
+    (program-alike words c d at e h q))
     (λ cell g. record { answer = refl; turn = refl; cells = h }))
 perform-twin {P} (compares {test = test} same other) k k′ c d e h = λ g.
     let r = if-twin (Twin P) _ _ _ _ (g .0) (perform-twin same k k′ c d e h) (perform-twin other k k′ c d e h) (g .1) in
@@ -144,18 +145,21 @@ module _ (prims : Primitives) (map : Map) (F : fit map ≡ true) (H : ℕ → Ty
         record { shows = λ v u. true-not-false (rw e (word-inside map F l lo hi .side ∙ i)) u }
 
     -- data of an unlocked partition shows
-    data-shown : (a j : ℕ) → a < limit map → isReady (s .phase) ≡ true → (rightsOf (partitionAt map a .kind) .scrambled && sensedLocked s (numberAt map a)) ≡ false
+    data-shown : (a j : ℕ) → a < limit map → isReady (s .phase) ≡ true
+        → (rightsOf (partitionAt map a .kind) .scrambled && sensedLocked s (numberAt map a)) ≡ false
         → firstWord (partitionAt map a) a ≤ j → j < firstWord (partitionAt map a) a + wordCount (partitionAt map a) a → Shown map H j
     unfolding partitionAt
     data-shown a j l r z lo hi =
-        open-shown (numberAt map a) j (λ v. shut (numberAt map a) v r (not-locked s (numberAt map a) (rw (secret (numberAt map a) v) at z))) (word-number map F l lo hi)
+        let n = numberAt map a in
+        open-shown n j (λ v. shut n v r (not-locked s n (rw (secret n v) at z))) (word-number map F l lo hi)
 
     front-same : (a : ℕ) → a < limit map → rightsOf (partitionAt map a .kind) .front ≡ true → granule (partitionAt map a) k a ≡ granule (partitionAt map a) k′ a
     unfolding granule partitionAt
     front-same a l f =
         ap numberOf (part-same k k′ _ _ (λ j lo hi. g .at j (record { low = omega (arith, granule-within map F l); front = rw (word-number map F l lo hi) f })))
 
-    computed-same : (a : ℕ) → a < limit map → (H (numberAt map a) → ⊥) → computedDigest prims map t (partitionAt map a) c ≡ computedDigest prims map t (partitionAt map a) d
+    computed-same : (a : ℕ) → a < limit map → (H (numberAt map a) → ⊥)
+        → computedDigest prims map t (partitionAt map a) c ≡ computedDigest prims map t (partitionAt map a) d
     unfolding computedDigest dataWords partitionAt
     computed-same a l n =
         let i = numberAt map a in
@@ -171,7 +175,8 @@ module _ (prims : Primitives) (map : Map) (F : fit map ≡ true) (H : ℕ → Ty
     command-same (Read a) r = if-same (λ e. refl) λ l. if-same (λ e. refl) λ e. if-same
         (λ i. ap (λ (x : ℕ). say (Done x) stay) (granule-same a (leb-false _ _ l) (λ j lo hi. digest-shown a j (leb-false _ _ l) i lo hi)))
         λ i. if-same (λ e. refl) λ e. if-same (λ e. refl)
-        λ z. ap (λ (x : ℕ). say (Done (unscrambled prims map t (partitionAt map a) x)) stay) (granule-same a (leb-false _ _ l) (λ j lo hi. data-shown a j (leb-false _ _ l) r z lo hi))
+        λ z. ap (λ (x : ℕ). say (Done (unscrambled prims map t (partitionAt map a) x)) stay)
+        (granule-same a (leb-false _ _ l) (λ j lo hi. data-shown a j (leb-false _ _ l) r z lo hi))
     command-same (FrontRead a) r = if-same (λ t. refl) λ l. if-same (λ t. refl) λ f. if-same (λ t. refl) λ i.
         ap (λ (x : ℕ). say (Done x) stay) (front-same a (leb-false _ _ l) (not-false _ f))
     command-same (Digest a) r = if-same (λ t. refl) λ l. if-same (λ t. refl) λ f. if-same (λ t. refl) λ i. if-same (λ t. refl) λ z.
@@ -192,12 +197,14 @@ front-shown map H secret j f = record { shows = λ v u. true-not-false (secret _
 
 module _ (prims : Primitives) (map : Map) where
   -- a word that front reads see is latched as it stands
-  pub front-latched : (constants cells : List ℕ) (j : ℕ) → rightsOf (partitionAt map (2 * j) .kind) .front ≡ true → copyWord prims map constants cells j ≡ getD cells j 0
+  pub front-latched : (constants cells : List ℕ) (j : ℕ) → rightsOf (partitionAt map (2 * j) .kind) .front ≡ true
+      → copyWord prims map constants cells j ≡ getD cells j 0
   unfolding copyWord
   front-latched constants cells j f =
       if-false _ _ (not-passed _ (λ t. true-not-false (front-hardware _ f) (lockable-not-hardware _ t))) ∙ rw (front-not-scrambled _ f) (if-false _ _ refl)
 
-  digests-same : (f g : Partition → ℕ) (ps : Map) → ((n : ℕ) → n < length ps → rightsOf (partition ps n .kind) .direct ≡ true → f (partition ps n) ≡ g (partition ps n)) → digests f ps ≡ digests g ps
+  digests-same : (f g : Partition → ℕ) (ps : Map)
+      → ((n : ℕ) → n < length ps → rightsOf (partition ps n .kind) .direct ≡ true → f (partition ps n) ≡ g (partition ps n)) → digests f ps ≡ digests g ps
   unfolding digests partition
   digests-same f g [] h = refl
   digests-same f g (p ∷ ps) h =
@@ -262,7 +269,8 @@ module _ (prims : Primitives) (map : Map) (F : fit map ≡ true) (H : ℕ → Ty
       → wokenSession prims map w (record { cells = c; copy = k; constants = t }) ≡ wokenSession prims map w (record { cells = d; copy = k′; constants = t })
   unfolding wokenSession
   woken-records (fails reason answer) c d k k′ t h = refl
-  woken-records (wakes state count) c d k k′ t h = rw (digests-same prims map (λ p. storedDigest p c) (λ p. storedDigest p d) map (λ n l e. stored-alike c d h n l e))
+  woken-records (wakes state count) c d k k′ t h =
+      rw (digests-same prims map (λ p. storedDigest p c) (λ p. storedDigest p d) map (λ n l e. stored-alike c d h n l e))
 
   up-made : (c d k k′ t : List ℕ) (s s′ : Session) → Right map (made c k t s) → Right map (made d k′ t s′) → Same (Shown map H) c d
       → ((p : ℕ) → H p → storedDigest (partition map p) c ≡ 0 → ⊥)
@@ -304,7 +312,8 @@ module _ (prims : Primitives) (map : Map) (F : fit map ≡ true) (H : ℕ → Ty
   decided x m n h =
       subst (λ (t : List ℕ). readyAct prims map (made (n .lent .cells) (n .lent .copy) t (n .session)) x ≡ readyAct prims map m x) (h .constants)
       (subst (λ (s : Session). readyAct prims map (made (n .lent .cells) (n .lent .copy) (m .lent .constants) s) x ≡ readyAct prims map m x) (h .records)
-      (sym (decided-same prims map F H known secret (m .session) (λ p v. h .locks p v .felt) (m .lent .cells) (n .lent .cells) (m .lent .copy) (n .lent .copy) (m .lent .constants) (h .fuses) (h .views) x)))
+      (sym (decided-same prims map F H known secret (m .session) (λ p v. h .locks p v .felt) (m .lent .cells) (n .lent .cells) (m .lent .copy) (n .lent .copy)
+      (m .lent .constants) (h .fuses) (h .views) x)))
 
   -- no hidden word is programmed
   shown-within : (x : Command) (m n : Machine) → Pair m n → Within (Shown map H) (readyAct prims map m x)
@@ -314,7 +323,8 @@ module _ (prims : Primitives) (map : Map) (F : fit map ≡ true) (H : ℕ → Ty
       go j (unlocked r d z aim) = record { shows = λ v u. h .locks _ v .felt r z }
       go j (lifeCycle r t e) = closed-shown j e
 
-  act-pair : (x : Command) (m n : Machine) → Pair m n → Agree (act prims map x m .compared) (act prims map x n .compared) → SamePair (act prims map x m) (act prims map x n)
+  act-pair : (x : Command) (m n : Machine) → Pair m n → Agree (act prims map x m .compared) (act prims map x n .compared)
+      → SamePair (act prims map x m) (act prims map x n)
   unfolding act performed
   act-pair x m n h g =
       let e = decided x m n h in
@@ -359,6 +369,12 @@ pub two-chips : (prims : Primitives) (map : Map) → fit map ≡ true → (m n :
 unfolding answers after Matched
 two-chips prims map F m n r r′ e h l g =
     let H = Hidden map (m .lent .cells) (n .lent .cells) in
-    let o = first-pair prims map F H (λ p v. v .known) (λ p v. v .secret) m n r r′ (record { at = λ j q. h .at j (λ w. q .shows (w .hidden) (w .isData)) }) e (λ p v. v .nonzero) (g .1) in
-    let t = after-pair prims map F H (λ p v. v .known) (λ p v. v .secret) l (machineAfter prims map PowerUp m) (machineAfter prims map PowerUp n) (o .pair) (g .2) in
-    (ap₂ (λ (a : Answer) (rest : List Answer). a ∷ rest) (o .answer) (t .0), t .1 .records, record { at = λ j q. t .1 .fuses .at j (record { shows = λ v u. q (record { hidden = v; isData = u }) }) })
+    let same : Same (Shown map H) (m .lent .cells) (n .lent .cells) = record { at = λ j q. h .at j (λ w. q .shows (w .hidden) (w .isData)) } in
+    let o = first-pair prims map F H (λ p v. v .known) (λ p v. v .secret) m n r r′ same e (λ p v. v .nonzero) (g .1) in
+    let m₁ = machineAfter prims map PowerUp m in
+    let n₁ = machineAfter prims map PowerUp n in
+    let t = after-pair prims map F H (λ p v. v .known) (λ p v. v .secret) l m₁ n₁ (o .pair) (g .2) in (
+      ap₂ (λ (a : Answer) (rest : List Answer). a ∷ rest) (o .answer) (t .0),
+      t .1 .records,
+      record { at = λ j q. t .1 .fuses .at j (record { shows = λ v u. q (record { hidden = v; isData = u }) }) },
+    )

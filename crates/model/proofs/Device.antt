@@ -52,36 +52,43 @@ module _ (prims : Primitives) (map : Map) where
 
 -- ---- what the copy holds of a partition that was found locked over the cells c₁
 
-module _ (prims : Primitives) (map : Map) (F : fit map ≡ true) (n : ℕ) (D : Digested map n) (front : rightsOf (partition map n .kind) .front ≡ true) (c₁ : List ℕ) where
+module _ (prims : Primitives) (map : Map) (F : fit map ≡ true) (n : ℕ) (D : Digested map n)
+    (front : rightsOf (partition map n .kind) .front ≡ true) (c₁ : List ℕ) where
   record Latched (m : Machine) : Type 0 where
     locked : Locked prims map F n D m
     same : SamePartition map n c₁ (m .lent .cells)
     held : isReady (m .session .phase) ≡ true → SamePartition map n c₁ (m .lent .copy)
 
-  woken-held : (w : Waking) (l : Lent) → SamePartition map n c₁ (l .cells) → isReady (wokenSession prims map w l .phase) ≡ true → SamePartition map n c₁ (wokenCopy prims map w l)
+  woken-held : (w : Waking) (l : Lent) → SamePartition map n c₁ (l .cells) → isReady (wokenSession prims map w l .phase) ≡ true
+      → SamePartition map n c₁ (wokenCopy prims map w l)
   unfolding wokenSession wokenCopy isReady
   woken-held (fails reason answer) l h e = absurd (true-not-false e refl)
   woken-held (wakes state count) l h e = record { at = word }
     where
-      word : (j : ℕ) → partition map n .start ≤ 2 * j → 2 * j < partition map n .end → getD c₁ j 0 ≡ getD (listed (copyWord prims map (l .constants) (l .cells)) 0 (limit map / 2)) j 0
+      word : (j : ℕ) → partition map n .start ≤ 2 * j → 2 * j < partition map n .end
+          → getD c₁ j 0 ≡ getD (listed (copyWord prims map (l .constants) (l .cells)) 0 (limit map / 2)) j 0
       word j from upto =
           let f = partition-fit map F (D .known) in
           let low : j < limit map / 2 = omega (arith, end-within map F (D .known), f .end-aligned) in
           let p = partition-at map (2 * j) (only map F (D .known) from upto) in
-          h .at j from upto ∙ sym (listed-at (copyWord prims map (l .constants) (l .cells)) 0 (limit map / 2) j low ∙ front-latched prims map (l .constants) (l .cells) j (rw p front))
+          h .at j from upto
+          ∙ sym (listed-at (copyWord prims map (l .constants) (l .cells)) 0 (limit map / 2) j low ∙ front-latched prims map (l .constants) (l .cells) j (rw p front))
 
-  up-latched : (m : Machine) → (storedDigest (partition map n) (m .lent .cells) ≡ 0 → ⊥) → SamePartition map n c₁ (m .lent .cells) → Latched (poweredUp prims map m)
+  up-latched : (m : Machine) → (storedDigest (partition map n) (m .lent .cells) ≡ 0 → ⊥) → SamePartition map n c₁ (m .lent .cells)
+      → Latched (poweredUp prims map m)
   up-latched m z h = record {
     locked = up-locked prims map F n D m z;
     same = unfold powerUp in h;
     held = unfold powerUp in (woken-held (waking prims map (m .lent)) (m .lent) h);
   }
 
-  act-held : (x : Command) (m : Machine) → Latched m → isReady (acted prims map x m .session .phase) ≡ true → SamePartition map n c₁ (acted prims map x m .lent .copy)
+  act-held : (x : Command) (m : Machine) → Latched m → isReady (acted prims map x m .session .phase) ≡ true
+      → SamePartition map n c₁ (acted prims map x m .lent .copy)
   unfolding act performed
   act-held x m h e = h .held (turned-ready _ (m .session) e)
 
-  step-held : (x : Command) (m : Machine) → Latched m → isReady (machineAfter prims map x m .session .phase) ≡ true → SamePartition map n c₁ (machineAfter prims map x m .lent .copy)
+  step-held : (x : Command) (m : Machine) → Latched m → isReady (machineAfter prims map x m .session .phase) ≡ true
+      → SamePartition map n c₁ (machineAfter prims map x m .lent .copy)
   unfolding unchanged
   step-held x m h =
       step-all prims map (λ (s : Step). isReady (s .result .machine .session .phase) ≡ true → SamePartition map n c₁ (s .result .machine .lent .copy)) x m
@@ -99,18 +106,22 @@ module _ (prims : Primitives) (map : Map) (F : fit map ≡ true) (n : ℕ) (D : 
   unfolding granule
   seen-same m h a value e s =
       let p = partition-at map a e in
-      s .shown ∙ ap numberOf (part-same (m .lent .copy) c₁ _ _ (λ j from upto. sym (h .held (s .awake) .at j (inside j from upto .0) (inside j from upto .1)))) ∙ rw p
+      let same = h .held (s .awake) in
+      s .shown ∙ ap numberOf (part-same (m .lent .copy) c₁ _ _ (λ j from upto. sym (same .at j (inside j from upto .0) (inside j from upto .1)))) ∙ rw p
     where
-      inside : (j : ℕ) → firstWord (partitionAt map a) a ≤ j → j < firstWord (partitionAt map a) a + wordCount (partitionAt map a) a → (partition map n .start ≤ 2 * j) × (2 * j < partition map n .end)
+      inside : (j : ℕ) → firstWord (partitionAt map a) a ≤ j → j < firstWord (partitionAt map a) a + wordCount (partitionAt map a) a
+          → (partition map n .start ≤ 2 * j) × (2 * j < partition map n .end)
       inside j from upto =
           let w = word-inside map F (s .below) from upto in
           rw (← partition-at map a e) (w .from, w .below)
 
-  front-read-same : (m : Machine) → Right map m → Latched m → (a value : ℕ) → numberAt map a ≡ n → answerTo prims map (FrontRead a) m ≡ Done value → value ≡ granule (partition map n) c₁ a
+  front-read-same : (m : Machine) → Right map m → Latched m → (a value : ℕ) → numberAt map a ≡ n → answerTo prims map (FrontRead a) m ≡ Done value
+      → value ≡ granule (partition map n) c₁ a
   unfolding obey act performed
   front-read-same m r h a value e = rw (step-obeys prims map (FrontRead a) m r, answerTo) (λ q. seen-same m h a value e (front-seen prims map m a value q))
 
-pub device-final : (prims : Primitives) (map : Map) → fit map ≡ true → (m : Machine) → Right map m → (n : ℕ) → Digested map n → rightsOf (partition map n .kind) .front ≡ true
+pub device-final : (prims : Primitives) (map : Map) → fit map ≡ true → (m : Machine) → Right map m → (n : ℕ) → Digested map n
+    → rightsOf (partition map n .kind) .front ≡ true
     → (l₁ l₂ : List Command) → (storedDigest (partition map n) (after prims map l₁ m .lent .cells) ≡ 0 → ⊥)
     → (a value : ℕ) → numberAt map a ≡ n → answerTo prims map (FrontRead a) (after prims map (l₁ ++ PowerUp ∷ l₂) m) ≡ Done value
     → value ≡ granule (partition map n) (after prims map l₁ m .lent .cells) a

@@ -133,7 +133,9 @@ alike : Alike map1 one other one other
 alike = record { at = word }
   where
     word : (j : ℕ) → (HiddenWord map1 one other j → ⊥) → getD one j 0 ≡ getD other j 0
-    word j h = by-cases (eqb j 296) (λ t. absurd (h (subst (HiddenWord map1 one other) (sym (eqb-true j 296 t)) hidden))) (λ t. unfold other in (sym (getD-set-other one 296 j 5 0 (eqb-false j 296 t))))
+    word j h =
+        by-cases (eqb j 296) (λ t. absurd (h (subst (HiddenWord map1 one other) (sym (eqb-true j 296 t)) hidden)))
+        (λ t. unfold other in (sym (getD-set-other one 296 j 5 0 (eqb-false j 296 t))))
 
 trying : List Command
 trying = Read 0x250 ∷ Write 0x250 1 ∷ Digest 0x250 ∷ Read 0x270 ∷ Transition 1 0 7 ∷ []
@@ -148,7 +150,8 @@ unfolding everything one other trying
 both-answer = refl
 
 chips-agree : answers toy map1 (PowerUp ∷ trying) (off one) ≡ answers toy map1 (PowerUp ∷ trying) (off other)
-chips-agree = toy-demand3 .chips (off one) (off other) (right one (unfold one in refl)) (right other (unfold one other in refl)) refl refl alike trying matched .0
+chips-agree =
+    toy-demand3 .chips (off one) (off other) (right one (unfold one in refl)) (right other (unfold one other in refl)) refl refl alike trying matched .0
 
 -- ---- the device code: HW_CFG locked with the DEVICE_ID's first word 0x1234; a later front read that answers 0 shows it
 
@@ -168,7 +171,8 @@ course-taken = refl
 -- ---- a token: SECRET0 locked with TEST_UNLOCK 0x70 (stored with its lowest bit flipped in each block); TEST_LOCKED0 goes to TEST_UNLOCKED1
 
 tested : List ℕ
-tested = replicate 296 0 ++ (0x71 ∷ 0 ∷ 0 ∷ 0 ∷ 1 ∷ 0 ∷ 0 ∷ 0 ∷ []) ++ replicate 8 0 ++ (1 ∷ replicate 91 0) ++ (3 ∷ 3 ∷ replicate 22 1) ++ (3 ∷ 3 ∷ replicate 18 1)
+tested =
+    replicate 296 0 ++ (0x71 ∷ 0 ∷ 0 ∷ 0 ∷ 1 ∷ 0 ∷ 0 ∷ 0 ∷ []) ++ replicate 8 0 ++ (1 ∷ replicate 91 0) ++ (3 ∷ 3 ∷ replicate 22 1) ++ (3 ∷ 3 ∷ replicate 18 1)
 
 token-taken : answers toy map1 (PowerUp ∷ Transition 3 0 0x70 ∷ PowerUp ∷ []) (off tested) ≡ Done 514 ∷ Done 0 ∷ Done 771 ∷ []
 unfolding everything tested
@@ -183,14 +187,17 @@ token-refused = refl
 summing : Primitives
 summing = record { encrypt = λ key block. bitXor block 1; decrypt = λ key block. bitXor block 1; digest = λ start final words. getD words 0 0 }
 
-digest-taken : answers summing map1 (PowerUp ∷ Write 0x250 0x40 ∷ Digest 0x250 ∷ Write 0x258 0x40 ∷ PowerUp ∷ Read 0x250 ∷ Read 0x270 ∷ []) (chip summing (λ i. 0) blank)
+digest-taken :
+    answers summing map1 (PowerUp ∷ Write 0x250 0x40 ∷ Digest 0x250 ∷ Write 0x258 0x40 ∷ PowerUp ∷ Read 0x250 ∷ Read 0x270 ∷ []) (chip summing (λ i. 0) blank)
     ≡ Done 0 ∷ Done 0 ∷ Done 0x41 ∷ Done 0 ∷ Done 0 ∷ Denied ∷ Done 0x41 ∷ []
 unfolding everything summing
 digest-taken = refl
 
 -- ---- read locks last until power-up, and locking again answers 0
 
-locks-last : answers toy map1 (PowerUp ∷ ReadLock 1 ∷ ReadLock 1 ∷ Read 0x100 ∷ PowerUp ∷ Read 0x100 ∷ ReadLock 2 ∷ []) (off blank) ≡ Done 0 ∷ Done 0 ∷ Done 0 ∷ Denied ∷ Done 0 ∷ Done 0 ∷ Denied ∷ []
+locks-last :
+    answers toy map1 (PowerUp ∷ ReadLock 1 ∷ ReadLock 1 ∷ Read 0x100 ∷ PowerUp ∷ Read 0x100 ∷ ReadLock 2 ∷ []) (off blank)
+    ≡ Done 0 ∷ Done 0 ∷ Done 0 ∷ Denied ∷ Done 0 ∷ Done 0 ∷ Denied ∷ []
 unfolding everything
 locks-last = refl
 

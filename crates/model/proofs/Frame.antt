@@ -81,7 +81,8 @@ module _ (prims : Primitives) (map : Map) (F : fit map ≡ true) where
       → lifeCycleIn prims map (record { cells = c; copy = copy; constants = t }) ≡ lifeCycleIn prims map (record { cells = d; copy = copy′; constants = t })
   unfolding lifeCycleIn stateAt
   life-same c d copy copy′ t h =
-      ap₂ (λ (x y : List ℕ). decoded t x y) (part-same c d _ 24 (λ j lo hi. h j lo (omega arith))) (part-same c d _ 20 (λ j lo hi. h j (omega arith) (omega arith)))
+      ap₂ (λ (x y : List ℕ). decoded t x y) (part-same c d _ 24 (λ j lo hi. h j lo (omega arith)))
+      (part-same c d _ 20 (λ j lo hi. h j (omega arith) (omega arith)))
 
   module _ (m : Machine) where
     -- ---- a transition programs life cycle words alone
@@ -145,7 +146,8 @@ module _ (prims : Primitives) (map : Map) (F : fit map ≡ true) where
         let e = digest-word map F (inside map F (leb-false _ _ l) .known) d lo (rw length-words at hi) in
         part-open (Digest a) (numberAt map a) j r d z (e .0) (record { hard = rw (e .0) hard; high = rw (e .0) (e .1) }))) says
     command-within (ReadLock number) r = within-if (λ t. says) λ t. says
-    command-within (Transition target high low) r = within-map (λ j e. lifeCycle r refl (life-words j (e .0) (e .1))) (transition-within target (high * 2 ^ 64 + low))
+    command-within (Transition target high low) r =
+        within-map (λ j e. lifeCycle r refl (life-words j (e .0) (e .1))) (transition-within target (high * 2 ^ 64 + low))
     command-within PowerUp r = says
 
     pub act-within : (x : Command) → Within (Open map x (m .session)) (readyAct prims map m x)

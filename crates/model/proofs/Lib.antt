@@ -13,5 +13,6 @@ pub mod Deaths
 pub mod Quiet
 pub mod Theorems
 pub mod Everything
+pub mod LifeCyclePlace
 pub mod Cases
 pub mod Examples

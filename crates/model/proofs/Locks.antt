@@ -53,11 +53,13 @@ turned-ready die s e = absurd (true-not-false e refl)
 
 -- the digest of partition n among those of the map
 module _ (f : Partition → ℕ) where
-  digests-at : (map : Map) (n : ℕ) → n < length map → ((i : ℕ) → i ≤ n → rightsOf (partition map i .kind) .direct ≡ true) → getD (digests f map) n 0 ≡ f (partition map n)
+  digests-at : (map : Map) (n : ℕ) → n < length map → ((i : ℕ) → i ≤ n → rightsOf (partition map i .kind) .direct ≡ true)
+      → getD (digests f map) n 0 ≡ f (partition map n)
   unfolding digests partition
   digests-at [] n l h = absurd (omega arith)
   digests-at (p ∷ ps) zero l h = rw (if-true (f p ∷ digests f ps) (digests f ps) (h 0 (omega arith)))
-  digests-at (p ∷ ps) (suc n) l h = rw (if-true (f p ∷ digests f ps) (digests f ps) (h 0 (omega arith))) (digests-at ps n (omega arith) (λ i k. h (suc i) (omega arith)))
+  digests-at (p ∷ ps) (suc n) l h =
+      rw (if-true (f p ∷ digests f ps) (digests f ps) (h 0 (omega arith))) (digests-at ps n (omega arith) (λ i k. h (suc i) (omega arith)))
 
 module _ (prims : Primitives) (map : Map) (F : fit map ≡ true) (n : ℕ) (D : Digested map n) where
   -- every partition up to one with a digest has one

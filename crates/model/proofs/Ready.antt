@@ -124,7 +124,8 @@ module _ (prims : Primitives) (map : Map) (F : fit map ≡ true) where
   waking-wakes (some number) life Q h = λ e. absurd (omega arith)
   waking-wakes none life Q h = life-wakes life Q h
 
-  pub up-wakes : (m : Machine) (Q : Waking → Type 0) → ((state count : ℕ) → Q (wakes state count)) → codeOf (powerUp prims map m .result .answer) ≡ 0x00 → Q (waking prims map (m .lent))
+  pub up-wakes : (m : Machine) (Q : Waking → Type 0) → ((state count : ℕ) → Q (wakes state count)) → codeOf (powerUp prims map m .result .answer) ≡ 0x00
+      → Q (waking prims map (m .lent))
   unfolding powerUp waking
   up-wakes m Q h = waking-wakes _ _ Q h
 
@@ -155,7 +156,8 @@ module _ (prims : Primitives) (map : Map) (F : fit map ≡ true) where
     right = act-right prims map x m (f .right);
   }
 
-  pub step-fresh : (c₀ : List ℕ) (x : Command) (m : Machine) → staysReady x (answerTo prims map x m) → Fresh map c₀ m → Fresh map c₀ (machineAfter prims map x m)
+  pub step-fresh : (c₀ : List ℕ) (x : Command) (m : Machine) → staysReady x (answerTo prims map x m) → Fresh map c₀ m
+      → Fresh map c₀ (machineAfter prims map x m)
   step-fresh c₀ x m h f = let e = step-act prims map x m (f .right) h in rw (e, machineAfter) (act-fresh c₀ x m (rw (e, answerTo) at h) f)
 
   pub after-fresh : (c₀ : List ℕ) (l : List Command) (m : Machine) → Lasts prims map l m → Fresh map c₀ m → Fresh map c₀ (after prims map l m)

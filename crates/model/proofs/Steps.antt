@@ -60,7 +60,8 @@ module _ (prims : Primitives) (map : Map) where
   obey-both Q x m n h f = by-obeying x (λ e. rw e (unfold obey in h)) (λ e. rw (e m, e n) f)
 
   -- what holds of a refusal and of the command obeyed
-  pub step-both : (Q : Step → Type 0) (x : Command) (m : Machine) → ((answer : Answer) → Q (unchanged answer m)) → Q (obey prims map x m) → Q (step prims map x m)
+  pub step-both : (Q : Step → Type 0) (x : Command) (m : Machine) → ((answer : Answer) → Q (unchanged answer m)) → Q (obey prims map x m)
+      → Q (step prims map x m)
   unfolding step
   step-both Q x m u h =
       if-both Q (not (rightLengths map (m .lent))) _ _ (λ e. u WrongLength)

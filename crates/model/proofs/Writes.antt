@@ -109,7 +109,9 @@ module _ (prims : Primitives) (C : Cipher prims) (map : Map) (F : fit map ≡ tr
       vs = storedWords prims map (m .lent .constants) a value
 
       held : partAt (programCells (m .lent .cells) i vs) i (wordCount (partitionAt map a) a) ≡ vs
-      held = rw length-words at (program-takes (m .lent .cells) vs i (rw length-words (omega (arith, granule-within map F (al .below), cells-length prims map m (f .right)))) (al .keeps))
+      held =
+          let inside = granule-within map F (al .below) in
+          rw length-words at (program-takes (m .lent .cells) vs i (rw length-words (omega (arith, inside, cells-length prims map m (f .right)))) (al .keeps))
 
   -- ---- what leaves the granule alone
 
@@ -175,7 +177,8 @@ module _ (prims : Primitives) (C : Cipher prims) (map : Map) (F : fit map ≡ tr
         → partAt (machineAfter prims map x m .lent .cells) first count ≡ partAt (m .lent .cells) first count
     unfolding unchanged powerUp act performed
     step-stays x m =
-        step-all prims map (λ (s : Step). spares map a x (s .result .answer) → partAt (s .result .machine .lent .cells) first count ≡ partAt (m .lent .cells) first count) x m
+        step-all prims map
+        (λ (s : Step). spares map a x (s .result .answer) → partAt (s .result .machine .lent .cells) first count ≡ partAt (m .lent .cells) first count) x m
         (λ answer sp. refl) (λ sp. refl) (λ sp. part-same _ (m .lent .cells) first count (word-stays x m sp))
 
     -- while no write to the granule answers 0, its words stay, through power-ups and transitions too
@@ -229,7 +232,8 @@ module _ (prims : Primitives) (C : Cipher prims) (map : Map) (F : fit map ≡ tr
             soft : rightsOf (p .kind) .hardware ≡ false
             soft = rw same-partition (not-passed _ (λ h. true-not-false (and-both _ _ h (sym same-side ∙ t)) open?))
 
-            plain : rightsOf (p .kind) .scrambled ≡ false → unscrambled prims map (m .lent .constants) p (granule p (m .lent .cells) b) ≡ granule p (m .lent .cells) b
+            plain : rightsOf (p .kind) .scrambled ≡ false
+                → unscrambled prims map (m .lent .constants) p (granule p (m .lent .cells) b) ≡ granule p (m .lent .cells) b
             plain q = unfold unscrambled in (if-false _ _ q)
 
         -- on a chip that is Ready since a power-up that found the partition open, a read answers 0 and the data used
@@ -253,7 +257,8 @@ module _ (prims : Primitives) (C : Cipher prims) (map : Map) (F : fit map ≡ tr
         read-back c₀ f z k = rw (step-act prims map (Read b) m r tt, answerTo, read-act c₀ f z k)
 
     -- on any chip, a read that answers 0 answers the data used
-    read-shows : (m : Machine) → Right map m → (value : ℕ) → value < 2 ^ 64 → partAt (m .lent .cells) first count ≡ storedWords prims map (m .lent .constants) a value
+    read-shows : (m : Machine) → Right map m → (value : ℕ) → value < 2 ^ 64
+        → partAt (m .lent .cells) first count ≡ storedWords prims map (m .lent .constants) a value
         → (b shown : ℕ) → firstWord (partitionAt map b) b ≡ first → outcome prims map (Read b) m .answer ≡ Done shown → shown ≡ usedValue map a value
     unfolding readyAct commandAct readAct perform
     read-shows m r value v held b shown same =
@@ -266,7 +271,8 @@ module _ (prims : Primitives) (C : Cipher prims) (map : Map) (F : fit map ≡ tr
         Q : Act → Type 0
         Q x = perform x (m .lent .copy) (m .lent .cells) .answer ≡ Done shown → shown ≡ usedValue map a value
 
-    read-lasts : (m : Machine) → Right map m → (value : ℕ) → value < 2 ^ 64 → partAt (m .lent .cells) first count ≡ storedWords prims map (m .lent .constants) a value
+    read-lasts : (m : Machine) → Right map m → (value : ℕ) → value < 2 ^ 64
+        → partAt (m .lent .cells) first count ≡ storedWords prims map (m .lent .constants) a value
         → (b shown : ℕ) → firstWord (partitionAt map b) b ≡ first → answerTo prims map (Read b) m ≡ Done shown → shown ≡ usedValue map a value
     unfolding act performed
     read-lasts m r value v held b shown same = rw (step-act prims map (Read b) m r tt, answerTo) (read-shows m r value v held b shown same)

@@ -24,7 +24,8 @@ use Rattle.model.specs.Demand3.{Ready}
 pub data Course (x : LifeCycle) : LifeCycle → Type 0 where
   stays : Course x x
   spends : {state count : ℕ} → Course x (Valid state count) → Course x (Valid state (suc count))
-  moves : {state count target : ℕ} {token : Token} → Course x (Valid state count) → transition state target ≡ entry.Allowed token → Course x (Valid target (suc count))
+  moves : {state count target : ℕ} {token : Token} → Course x (Valid state count) → transition state target ≡ entry.Allowed token
+      → Course x (Valid target (suc count))
 
 -- neither a power-up nor a transition
 abbrev pub quiet : Command → Type 0

@@ -16,16 +16,18 @@ reasonCode BitCleared = 4
 reasonCode DigestFailed = 6
 reasonCode LifeCycleFailed = 7
 
--- "A fresh record is Off, all else zero."
+-- "A fresh record is Off, all else zero.": a sensed digest for each of the partitions 0 to 5, a read lock for 0 and for 1
 abbrev pub freshSession : Session
 freshSession = record { phase = Off; sensed = 0 ∷ 0 ∷ 0 ∷ 0 ∷ 0 ∷ 0 ∷ []; locks = false ∷ false ∷ []; state = 0; count = 0 }
 
+-- the one phase in which commands but power-up are answered
 unfoldable pub isReady : Phase → Bool
 isReady Off = false
 isReady Ready = true
 isReady Inert = false
 isReady (Dead reason) = false
 
+-- the sensed digest of a partition by its number; LIFE_CYCLE has none, and so 0
 unfoldable pub sensedAt : Session → ℕ → ℕ
 sensedAt s number = getD (s .sensed) number 0
 
@@ -33,6 +35,7 @@ sensedAt s number = getD (s .sensed) number 0
 unfoldable pub sensedLocked : Session → ℕ → Bool
 sensedLocked s number = not (eqb (sensedAt s number) 0)
 
+-- whether a partition is read-locked; only 0 and 1 can be
 unfoldable pub readLocked : Session → ℕ → Bool
 readLocked s number = getD (s .locks) number false
 

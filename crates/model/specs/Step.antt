@@ -27,11 +27,12 @@ pub record Step : Type 0 where
   pub compared : List Bool
   pub verdicts : List (Option ℕ)
 
--- a refusal before anything else
+-- "A refusal leaves cells, copy and record as they were"
 unfoldable pub unchanged : Answer → Machine → Step
 unchanged answer m = record { result = record { machine = m; answer = answer }; compared = []; verdicts = [] }
 
 module _ (prims : Primitives) (map : Map) where
+  -- the cells are what the act left, the copy stays, and the record takes its turn
   unfoldable pub performed : Performed → Machine → Step
   performed r m =
       record {
@@ -46,9 +47,11 @@ module _ (prims : Primitives) (map : Map) where
         verdicts = [];
       }
 
+  -- a command but power-up: decided, then performed
   unfoldable pub act : Command → Machine → Step
   act x m = performed (perform (readyAct prims map m x) (m .lent .copy) (m .lent .cells)) m
 
+  -- power-up, with its integrity verdict
   unfoldable pub powerUp : Machine → Step
   powerUp m =
       let l = m .lent in
@@ -65,6 +68,7 @@ module _ (prims : Primitives) (map : Map) where
         verdicts = verdictOf prims map l ∷ [];
       }
 
+  -- a command once what is lent is judged
   unfoldable pub obey : Command → Machine → Step
   obey (Read a) m = act (Read a) m
   obey (Write a value) m = act (Write a value) m
@@ -74,7 +78,7 @@ module _ (prims : Primitives) (map : Map) where
   obey (Transition target high low) m = act (Transition target high low) m
   obey PowerUp m = powerUp m
 
-  -- "Order: 0x10, 0x12, 0x07 for phase or record, then 0x11, then 0x05, then 0x04."
+  -- "Order: 0x10, 0x12, 0x07 for phase or record, then 0x11, then 0x05, then 0x04.": the first two here, for every command
   unfoldable pub step : Command → Machine → Step
   step x m =
       if not (rightLengths map (m .lent)) then unchanged WrongLength m

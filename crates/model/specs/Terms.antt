@@ -96,7 +96,8 @@ module _ (prims : Primitives) (map : Map) where
   -- "It takes effect: it answers 0, its granule holds the data, scrambled where secret, and no other cell changes."
   pub record TakesEffect (m : Machine) (a value : ℕ) (s : Step) : Type 0 where
     pub done : s .result .answer ≡ Done 0
-    pub holds : partAt (s .result .machine .lent .cells) (firstWord (partitionAt map a) a) (wordCount (partitionAt map a) a) ≡ storedWords prims map (m .lent .constants) a value
+    pub holds : let p = partitionAt map a in
+        partAt (s .result .machine .lent .cells) (firstWord p a) (wordCount p a) ≡ storedWords prims map (m .lent .constants) a value
     pub others : (j : ℕ)
         → (firstWord (partitionAt map a) a ≤ j → j < firstWord (partitionAt map a) a + wordCount (partitionAt map a) a → ⊥)
         → getD (s .result .machine .lent .cells) j 0 ≡ getD (m .lent .cells) j 0

@@ -15,12 +15,12 @@ use Rattle.words.specs.Words.{numberOf, wordsOf, partAt}
 use Rattle.words.proofs.Words.{Words, length-words, words-number}
 use Rattle.words.proofs.Parts.{length-part, part-words}
 use Rattle.partitions.specs.declared.Partition.{Partition}
-use Rattle.partitions.specs.Map.{Map, rightsOf, partitionAt, limit, inDigest, firstWord}
+use Rattle.partitions.specs.Map.{Map, rightsOf, partitionAt, limit, inDigest, firstWord, wordCount}
 use Rattle.partitions.specs.Fitness.{fit}
 use Rattle.partitions.proofs.Map.{inside, only, partition-at}
 use Rattle.partitions.proofs.Granules.{granule-scrambled, size-words}
 use Rattle.model.specs.Lent.{Primitives}
-use Rattle.model.specs.Commands.{unscrambled}
+use Rattle.model.specs.Commands.{granule, unscrambled}
 use Rattle.model.specs.PowerUp.{copyWord}
 
 -- ---- one word of a block
@@ -54,8 +54,9 @@ module _ (prims : Primitives) (map : Map) (fits : fit map ≡ true) (constants c
         (λ t. le-leb (here .digest) (2 * (at + k)) (omega (arith, leb-true)) ∙ sym t)
         (λ t. lt-leb (here .digest) (2 * (at + k)) (before-eight at k _ h aligned e (leb-false _ _ t)) ∙ sym t)
 
-    first-word : rightsOf (here .kind) .scrambled ≡ true → firstWord here (2 * (at + k)) ≡ at
-    first-word s = size-words here (2 * (at + k)) 8 (granule-scrambled (inside map fits known .fits) s (2 * (at + k))) .0 ∙ omega arith
+    -- the granule of a secret word is the block
+    block-words : rightsOf (here .kind) .scrambled ≡ true → (firstWord here (2 * (at + k)) ≡ at) × (wordCount here (2 * (at + k)) ≡ 4)
+    block-words s = let w = size-words here (2 * (at + k)) 8 (granule-scrambled (inside map fits known .fits) s (2 * (at + k))) in (w .0 ∙ omega arith, w .1)
 
     zero-word : rightsOf (here .kind) .lockable ≡ true → 0 ≡ rule (at + k)
     unfolding copyWord
@@ -68,10 +69,11 @@ module _ (prims : Primitives) (map : Map) (fits : fit map ≡ true) (constants c
 
     secret-word : rightsOf (here .kind) .lockable ≡ false → rightsOf (here .kind) .scrambled ≡ true → inDigest here (2 * at) ≡ false
         → getD (wordsOf 4 (unscrambled prims map constants here (numberOf (partAt cells at 4)))) k 0 ≡ rule (at + k)
-    unfolding copyWord
+    unfolding copyWord granule
     secret-word e s d =
         let z : at + k - at ≡ k = omega arith in
-        sym (rw (same-partition, same-side, first-word s, z, s, d) (if-false _ _ e ∙ if-true _ _ refl))
+        let w = block-words s in
+        sym (rw (same-partition, same-side, w .0, w .1, z, s, d) (if-false _ _ e ∙ if-true _ _ refl))
 
   -- ---- the block
 

@@ -10,7 +10,6 @@ use Rattle.basics.proofs.Choice.{if-true, if-false}
 use Rattle.words.specs.declared.Programmed.the-variants as programmed
 use Rattle.words.specs.Programming.{programAnswer, programCells}
 use Rattle.words.proofs.Programming.{by-answer, stored-refused}
-use Rattle.partitions.specs.Map.{partition, numberOfKind, kindNumber}
 use Rattle.partitions.specs.Map1.{map1}
 use Rattle.life_cycle.specs.Words.{counterWords, stateWords}
 use Rattle.life_cycle.specs.Transitions.{transition}
@@ -30,14 +29,6 @@ use Rattle.transition.specs.declared.Permit.{Permit}
 use Rattle.transition.specs.declared.Permit.the-variants.{Granted, Refused}
 use Rattle.transition.specs.Permit.{permitOf, inert, dead, movedAs}
 use Rattle.transition.proofs.Tokens.{permittedAct, entering}
-
-pub counter-place : 404 ≡ counterAt primitives map1
-unfolding counterAt numberOfKind kindNumber partition map1 if_then_else_
-counter-place = refl
-
-pub state-place : 428 ≡ stateAt primitives map1
-unfolding stateAt
-state-place = ap (λ (n : ℕ). n + 24) counter-place
 
 -- admitted, with a record whose state and count are in range
 pub record Known (m : Machine) : Type 0 where
