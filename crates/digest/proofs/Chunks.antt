@@ -1,5 +1,5 @@
 -- Eight words are one chunk of two blocks. The idea: the blocks of the words from the ninth on are the blocks from the third on.
-use mathlib.Core.Path.{_≡_, sym, ap, _∙_}
+use mathlib.Core.Path.{_≡_, ap, _∙_}
 use mathlib.Core.List.{List}
 use Prim.Native.Nat.{ℕ, suc, _+_, _*_, _-_, _/_, _^_, _≤_, _<_}
 use native.Mathlib.Nat.{zero-add, add-zero}
