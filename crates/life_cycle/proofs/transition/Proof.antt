@@ -9,30 +9,6 @@ use Rattle.life_cycle.specs.Transitions.{isTest, isUnlocked, isLocked, t
 use Rattle.life_cycle.proofs.transition.Statement.{statement}
 use Rattle.life_cycle.proofs.transition.Tie as tie
 
-test-index-requires : tie.Need-test-index-requires
-test-index-requires c κs = search needs
-
-test-index-requires-2 : tie.Need-test-index-requires-2
-test-index-requires-2 c κs = search needs
-
-is-unlocked-requires : tie.Need-is-unlocked-requires
-is-unlocked-requires c κs = search needs
-
-is-locked-requires : tie.Need-is-locked-requires
-is-locked-requires c κs = search needs
-
-is-locked-requires-2 : tie.Need-is-locked-requires-2
-is-locked-requires-2 c κs = search needs
-
-is-unlocked-requires-2 : tie.Need-is-unlocked-requires-2
-is-unlocked-requires-2 c κs = search needs
-
-is-test-requires : tie.Need-is-test-requires
-is-test-requires c κs = search needs
-
-is-unlocked-requires-3 : tie.Need-is-unlocked-requires-3
-is-unlocked-requires-3 c κs = search needs
-
 -- ---- the rows that call: where the code's test has a value, the definition's has it
 
 both : {a b c d : Bool} → a ≡ c → b ≡ d → (a && b) ≡ (c && d)
@@ -190,18 +166,18 @@ pub transition-spec : {M : Type 1} → statement M
 transition-spec =
     tie.close
     (tie.spec
-    test-index-requires
-    test-index-requires-2
+    (λ c κs. search needs)
+    (λ c κs. search needs)
     returns
-    is-unlocked-requires
-    is-locked-requires
+    (λ c κs. search needs)
+    (λ c κs. search needs)
     returns-2
-    is-locked-requires-2
-    is-unlocked-requires-2
+    (λ c κs. search needs)
+    (λ c κs. search needs)
     returns-3
-    is-test-requires
+    (λ c κs. search needs)
     returns-4
-    is-unlocked-requires-3
+    (λ c κs. search needs)
     returns-5
     returns-6
     returns-7

@@ -23,15 +23,6 @@ abbrev μ-loop : tie.MeasureT-loop
 loop-holds : tie.Need-loop-holds Inv-loop μ-loop
 loop-holds c = sums-none
 
-place-of-requires : tie.Need-place-of-requires Inv-loop μ-loop
-place-of-requires c κs = omega arith
-
-bit-at-requires : tie.Need-bit-at-requires Inv-loop μ-loop
-bit-at-requires c κs = omega arith
-
-shl-out : tie.Need-shl-out Inv-loop μ-loop
-shl-out c = omega arith
-
 loop-again : tie.Need-loop-again Inv-loop μ-loop
 loop-again c =
     let s = c .before .before .before in
@@ -45,12 +36,6 @@ add-out : tie.Need-add-out Inv-loop μ-loop
 unfolding permuteBack
 add-out c = record { fits = sums-fit (loop-again c) (permuteBack-lt (c .before .before .before .before .args .x)) }
 
-add-i : tie.Need-add-i Inv-loop μ-loop
-add-i c = omega arith
-
-loop-less : tie.Need-loop-less Inv-loop μ-loop
-loop-less c = omega arith
-
 returns : tie.Need-returns Inv-loop μ-loop
 unfolding permuteBack
 returns c = sums-all (c .before .loop .inv) (omega arith)
@@ -62,11 +47,11 @@ permuted-back-spec =
     Inv-loop
     μ-loop
     loop-holds
-    place-of-requires
-    bit-at-requires
-    shl-out
+    (λ c κs. omega arith)
+    (λ c κs. omega arith)
+    (λ c. omega arith)
     add-out
-    add-i
-    loop-less
+    (λ c. omega arith)
+    (λ c. omega arith)
     loop-again
     returns)

@@ -24,21 +24,6 @@ loop-holds : tie.Need-loop-holds Inv-loop μ-loop
 unfolding keyAfter
 loop-holds c = (lit≤ tt, refl, c .fits .low .fits, follows-none refl)
 
-mul-keys : tie.Need-mul-keys Inv-loop μ-loop
-mul-keys c = omega arith
-
-array-write-keys : tie.Need-array-write-keys Inv-loop μ-loop
-array-write-keys c = omega arith
-
-add-i : tie.Need-add-i Inv-loop μ-loop
-add-i c = omega arith
-
-key-step-requires : tie.Need-key-step-requires Inv-loop μ-loop
-key-step-requires c κs = tt
-
-loop-less : tie.Need-loop-less Inv-loop μ-loop
-loop-less c = omega arith
-
 -- the high half is the round key
 high-is : (high low i a b : ℕ) → a * 2 ^ 64 + b ≡ keyAfter (high * 2 ^ 64 + low) i → b < 2 ^ 64 → a ≡ rule high low i
 high-is high low i a b e l = sym (roundKey-halves a b l) ∙ ap roundKey e
@@ -56,9 +41,6 @@ loop-again c =
       follows-more (v .inv .3) (omega arith) (high-is (g .high) (g .low) (v .i) (v .key .high) (v .key .low) (v .inv .1) (v .inv .2)),
     )
 
-array-write-keys-2 : tie.Need-array-write-keys-2 Inv-loop μ-loop
-array-write-keys-2 c = omega arith
-
 returns : tie.Need-returns Inv-loop μ-loop
 returns c =
     let g = c .before .before .args in
@@ -75,11 +57,11 @@ round-keys-spec =
     Inv-loop
     μ-loop
     loop-holds
-    mul-keys
-    array-write-keys
-    add-i
-    key-step-requires
-    loop-less
+    (λ c. omega arith)
+    (λ c. omega arith)
+    (λ c. omega arith)
+    (λ c κs. tt)
+    (λ c. omega arith)
     loop-again
-    array-write-keys-2
+    (λ c. omega arith)
     returns)

@@ -23,18 +23,6 @@ abbrev μ-loop : tie.MeasureT-loop
 loop-holds : tie.Need-loop-holds Inv-loop μ-loop
 loop-holds c = sums-none
 
-group-requires : tie.Need-group-requires Inv-loop μ-loop
-group-requires c κs = omega arith
-
-group-requires-2 : tie.Need-group-requires-2 Inv-loop μ-loop
-group-requires-2 c κs = omega arith
-
-mul-out : tie.Need-mul-out Inv-loop μ-loop
-mul-out c = omega arith
-
-shl-out : tie.Need-shl-out Inv-loop μ-loop
-shl-out c = omega arith
-
 loop-again : tie.Need-loop-again Inv-loop μ-loop
 loop-again c =
     let s = c .before .before .before in
@@ -52,12 +40,6 @@ add-out c =
     let whole = substitute-lt (digit 16 (a .word)) (λ v h. digit-lt 16 (lit< tt) (a .word) v) (a .x) in
     record { fits = sums-fit (loop-again c) whole }
 
-add-i : tie.Need-add-i Inv-loop μ-loop
-add-i c = omega arith
-
-loop-less : tie.Need-loop-less Inv-loop μ-loop
-loop-less c = omega arith
-
 returns : tie.Need-returns Inv-loop μ-loop
 unfolding substitute
 returns c = sums-all (c .before .loop .inv) (omega arith)
@@ -69,12 +51,12 @@ substituted-spec =
     Inv-loop
     μ-loop
     loop-holds
-    group-requires
-    group-requires-2
-    mul-out
-    shl-out
+    (λ c κs. omega arith)
+    (λ c κs. omega arith)
+    (λ c. omega arith)
+    (λ c. omega arith)
     add-out
-    add-i
-    loop-less
+    (λ c. omega arith)
+    (λ c. omega arith)
     loop-again
     returns)

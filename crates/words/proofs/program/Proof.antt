@@ -15,27 +15,6 @@ use Rattle.words.proofs.program.Tie as tie
 returns : tie.Need-returns
 returns c = let o = c .before .before .before .args in past-cells (o .cells .now) (o .value .now) (o .at) (c .if1 .taken)
 
-sub-least : tie.Need-sub-least
-sub-least c = search needs
-
-least-requires : tie.Need-least-requires
-least-requires c κs = search needs
-
-add-end : tie.Need-add-end
-add-end c = search needs
-
-mul-program-part : tie.Need-mul-program-part
-mul-program-part c = search needs
-
-sub-program-part : tie.Need-sub-program-part
-sub-program-part c = search needs
-
-part-program-part-start : tie.Need-part-program-part-start
-part-program-part-start c = search needs
-
-part-program-part-end : tie.Need-part-program-part-end
-part-program-part-end c = search needs
-
 slice-aggregate-program-part : tie.Need-slice-aggregate-program-part
 slice-aggregate-program-part c =
     sym (length-take-le (c .before .before .least .result) (c .before .before .before .before .before .before .args .value .now) (omega arith))
@@ -47,12 +26,6 @@ program-part-requires c κs =
     let n = c .before .before .least .result in
     let e : at + n - at ≡ n = omega arith in
     rw e (same-lengths (o .args .cells .now) (o .args .value .now) at n (omega arith) (omega arith) (λ l. omega arith))
-
-enum-told : tie.Need-enum-told
-enum-told c = search needs
-
-enum-known-i : tie.Need-enum-known-i
-enum-known-i c = search needs
 
 -- what the call of `program_part` leaves
 module _ (t : tie.After-program-part) where
@@ -90,16 +63,10 @@ add-t18 c =
     let t = c .before .before .before .before .before in
     omega (arith, within t (c .before .i .given .0 .0) (c .before .i .given .1))
 
-same-length : tie.Need-same-length
-same-length c = search needs
-
 returns-2 : tie.Need-returns-2
 returns-2 c =
     let t = c .before .before .before .before in
     (ap (counted (at t)) (sym (c .enum-told .given .1)) ∙ whole t .0, whole t .1)
-
-same-length-2 : tie.Need-same-length-2
-same-length-2 c = search needs
 
 returns-3 : tie.Need-returns-3
 returns-3 c =
@@ -111,19 +78,19 @@ program-spec =
     tie.close
     (tie.spec
     returns
-    sub-least
-    least-requires
-    add-end
-    mul-program-part
-    sub-program-part
-    part-program-part-start
-    part-program-part-end
+    (λ c. search needs)
+    (λ c κs. search needs)
+    (λ c. search needs)
+    (λ c. search needs)
+    (λ c. search needs)
+    (λ c. search needs)
+    (λ c. search needs)
     slice-aggregate-program-part
     program-part-requires
-    enum-told
-    enum-known-i
+    (λ c. search needs)
+    (λ c. search needs)
     add-t18
-    same-length
+    (λ c. search needs)
     returns-2
-    same-length-2
+    (λ c. search needs)
     returns-3)
