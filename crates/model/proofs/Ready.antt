@@ -12,10 +12,6 @@ use Rattle.partitions.specs.Map.{Map, partition}
 use mathlib.Core.Option.{Option, none, some}
 use Rattle.life_cycle.specs.declared.LifeCycle.{LifeCycle}
 use Rattle.life_cycle.specs.declared.LifeCycle.the-variants.{Valid, Invalid}
-use Rattle.life_cycle.specs.declared.Token.{Token}
-use Rattle.life_cycle.specs.declared.Token.the-variants.{Nothing, RawUnlock, TestUnlock, TestExit, Rma}
-use Rattle.life_cycle.specs.declared.Entry.{Entry}
-use Rattle.life_cycle.specs.declared.Entry.the-variants.{Allowed, Forbidden}
 use Rattle.life_cycle.specs.Transitions.{transition}
 use Rattle.model.specs.declared.Answer.{Answer}
 use Rattle.model.specs.declared.Session.{Session}
@@ -25,11 +21,12 @@ use Rattle.model.specs.Answers.{codeOf}
 use Rattle.model.specs.Session.{isReady, sensedAt}
 use Rattle.model.specs.Lent.{Machine, Primitives}
 use Rattle.model.specs.Acts.{Turn, stay, lock, halt, die, turned, Act}
-use Rattle.model.specs.Commands.{storedDigest, writeAct, readAct, frontReadAct, digestAct, readLockAct, moveAct, lockedTokenAct, tokenAct, entryAct, transitionAct, commandAct, readyAct}
+use Rattle.model.specs.Commands.{storedDigest, writeAct, readAct, frontReadAct, digestAct, readLockAct, transitionAct, commandAct, readyAct}
 use Rattle.model.specs.PowerUp.{Waking, wakes, waking, wakingOf, lifeCycleWaking, wokenSession, wokenAnswer}
 use Rattle.model.specs.Step.{performed, act, powerUp, step, after, machineAfter, answerTo}
 use Rattle.model.specs.Terms.{Right, Digested, staysReady, Lasts}
 use Rattle.model.proofs.Acts.{Gives, perform-gives, gives-either}
+use Rattle.model.proofs.Transitions.{Ends, entry-gives}
 use Rattle.model.proofs.Steps.{obeys-act, step-obeys, step-up, up-right, act-right, acted, poweredUp}
 use Rattle.model.proofs.Locks.{turned-sensed, sensed-stored}
 
@@ -53,28 +50,16 @@ Calm x answer t = staysReady x answer → calm t
 abbrev Other : Answer → Turn → Type 0
 Other answer t = codeOf answer ≡ 0x11 → ⊥
 
+other-ends : Ends Other
+other-ends = record {
+  cleared = λ cell. eqb-false _ _ refl;
+  moved = eqb-false _ _ refl;
+  forbidden = eqb-false _ _ refl;
+  open? = eqb-false _ _ refl;
+  differs = eqb-false _ _ refl;
+}
+
 module _ (prims : Primitives) (map : Map) (m : Machine) where
-  move-other : (target : ℕ) → Gives Other (moveAct prims map m target)
-  unfolding moveAct
-  move-other target = Gives.programs (λ cell. eqb-false _ _ refl) (Gives.says (eqb-false _ _ refl))
-
-  locked-other : (k : Token) (target given : ℕ) → Gives Other (lockedTokenAct prims map m k target given)
-  unfolding lockedTokenAct
-  locked-other k target given = gives-either _ (Gives.says (eqb-false _ _ refl)) (Gives.compares (move-other target) (Gives.says (eqb-false _ _ refl)))
-
-  token-other : (k : Token) (target given : ℕ) → Gives Other (tokenAct prims map m k target given)
-  unfolding tokenAct
-  token-other Nothing target given = move-other target
-  token-other RawUnlock target given = Gives.compares (move-other target) (Gives.says (eqb-false _ _ refl))
-  token-other TestUnlock target given = locked-other TestUnlock target given
-  token-other TestExit target given = locked-other TestExit target given
-  token-other Rma target given = locked-other Rma target given
-
-  pub entry-other : (e : Entry) (target given : ℕ) → Gives Other (entryAct prims map m e target given)
-  unfolding entryAct
-  entry-other Forbidden target given = Gives.says (eqb-false _ _ refl)
-  entry-other (Allowed k) target given = token-other k target given
-
   loud : {x : Act} → Gives Other x → Gives (λ answer t. codeOf answer ≡ 0x11 → calm t) x
   loud (Gives.says h) = Gives.says (λ e. absurd (h e))
   loud (Gives.programs h next) = Gives.programs (λ cell e. absurd (h cell e)) (loud next)
@@ -89,7 +74,7 @@ module _ (prims : Primitives) (map : Map) (m : Machine) where
   command-calm (ReadLock number) = search (gives-either, Gives.says) depth 9
   command-calm (Transition target high low) =
       gives-either _ (Gives.says (λ e. tt)) (gives-either _ (Gives.says (λ e. tt)) (gives-either _ (Gives.says (λ e. absurd (eqb-false _ _ refl e)))
-      (Gives.programs (λ cell e. absurd (eqb-false _ _ refl e)) (loud (entry-other (transition (m .session .state) target) target _)))))
+      (Gives.programs (λ cell e. absurd (eqb-false _ _ refl e)) (loud (entry-gives other-ends prims map m (transition (m .session .state) target) target _)))))
   command-calm PowerUp = Gives.says (λ e. tt)
 
   pub act-calm : (x : Command) → Gives (Calm x) (readyAct prims map m x)
