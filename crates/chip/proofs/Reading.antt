@@ -1,4 +1,4 @@
--- What code reads of what is lent, against the definitions. The idea: eight words are two numbers of four, and a part inside the cells is a slice of them.
+-- What code reads of what is lent, against the definitions. The idea: code branches where a definition chooses, and a part inside the cells is a slice of them.
 use mathlib.Core.Path.{_≡_, sym, ap}
 use mathlib.Core.Bool.{true, false}
 use mathlib.Core.List.{List}

@@ -5,10 +5,8 @@ use mathlib.Core.Bool.{Bool, true, false, _&&_}
 use mathlib.Core.List.{List, [], _∷_}
 use Prim.Native.Nat.{ℕ, suc, _+_, _*_, _/_, _≤_, _<_}
 use native.Mathlib.Omega.{arith}
-use lib.Dec.{eqb, ltb}
-use lib.ListN.{length, getD, set, length-set}
-use lib.Seq.{sets, getD-set-same, getD-set-other, set-out}
-use borrow.Author.Tests.{leb-false, eqb-true, eqb-false, ltb-true, ltb-false, not-false}
+use lib.ListN.{length, getD}
+use borrow.Author.Tests.{leb-false, not-false}
 use Rattle.basics.specs.Choice.{if_then_else_}
 use Rattle.basics.specs.Range.{listed}
 use Rattle.basics.proofs.Choice.{by-cases, true-not-false, not-passed, if-true, if-false, if-same}
@@ -18,7 +16,8 @@ use Rattle.words.specs.declared.Programmed.the-variants as programmed
 use Rattle.words.specs.Words.{numberOf}
 use Rattle.words.specs.Programming.{programAnswer, programCells}
 use Rattle.words.proofs.Parts.{part-same}
-use Rattle.words.proofs.Programming.{answer-same, by-answer, stored-done, stored-refused, program-length}
+use Rattle.words.proofs.Programming.{answer-same, program-length}
+use Rattle.words.proofs.Alike.{Same, program-alike}
 use Rattle.partitions.specs.declared.Kind.the-variants as kind
 use Rattle.partitions.specs.declared.Partition.{Partition}
 use Rattle.partitions.specs.Fitness.{fit}
@@ -42,35 +41,6 @@ use Rattle.model.proofs.Acts.{Within, says, programs, compares, within-
 use Rattle.model.proofs.Frame.{Open, unlocked, lifeCycle, not-locked, life-words, life-closed, life-same, act-within}
 use Rattle.model.proofs.Steps.{obey-both, step-obeys, step-up, cells-length, up-right, act-right}
 use Rattle.model.proofs.Locks.{Locked, up-locked, act-locked}
-
--- ---- cells that are equal where P holds
-
-pub record Same (P : ℕ → Type 0) (c d : List ℕ) : Type 0 where
-  pub at : (j : ℕ) → P j → getD c j 0 ≡ getD d j 0
-
-set-alike : {P : ℕ → Type 0} (c d : List ℕ) (i v : ℕ) → length c ≡ length d → Same P c d → Same P (set c i v) (set d i v)
-set-alike {P} c d i v e h = record { at = λ j p. by-cases (eqb j i) (here j p) (there j p) }
-  where
-    put : (j : ℕ) → P j → getD (set c j v) j 0 ≡ getD (set d j v) j 0
-    put j p =
-        by-cases (ltb j (length c)) (λ t. getD-set-same c j v 0 (ltb-true _ _ t) ∙ sym (getD-set-same d j v 0 (omega (arith, ltb-true))))
-        (λ t. rw (set-out c j v (ltb-false _ _ t), set-out d j v (omega (arith, ltb-false))) (h .at j p))
-
-    here : (j : ℕ) → P j → eqb j i ≡ true → getD (set c i v) j 0 ≡ getD (set d i v) j 0
-    here j p t = rw (← eqb-true j i t) (put j p)
-
-    there : (j : ℕ) → P j → eqb j i ≡ false → getD (set c i v) j 0 ≡ getD (set d i v) j 0
-    there j p t = rw (getD-set-other c i j v 0 (eqb-false j i t), getD-set-other d i j v 0 (eqb-false j i t)) (h .at j p)
-
-sets-alike : {P : ℕ → Type 0} (vs c d : List ℕ) (i : ℕ) → length c ≡ length d → Same P c d → Same P (sets c i vs) (sets d i vs)
-sets-alike [] c d i e h = h
-sets-alike (v ∷ vs) c d i e h = sets-alike vs (set c i v) (set d i v) (suc i) (rw (length-set c i v, length-set d i v) e) (set-alike c d i v e h)
-
-program-alike : {P : ℕ → Type 0} (vs c d : List ℕ) (i : ℕ) → length c ≡ length d → Same P c d → programAnswer c i vs ≡ programAnswer d i vs
-    → Same P (programCells c i vs) (programCells d i vs)
-program-alike vs c d i e h q =
-    by-answer (programAnswer c i vs) (λ t. rw (stored-done c vs i t, stored-done d vs i (sym q ∙ t)) (sets-alike vs c d i e h))
-    (λ n t. rw (stored-refused c vs i n t, stored-refused d vs i n (sym q ∙ t)) h)
 
 -- ---- one act on two chips
 
