@@ -5,6 +5,7 @@ use model::Session;
 use partitions::Kind;
 use partitions::Partition;
 use partitions::WORDS;
+use words::block_at;
 ghost use mathlib.Core.Path.{_≡_};
 ghost use Prim.Native.Nat.{_+_, _*_, _^_};
 ghost use Rattle.words.specs.Words.{numberOf, partAt};
@@ -79,17 +80,6 @@ pub struct Halves {
     pub low: u64,
 }
 
-// The number of the four words from `at` on, zeros past the last word.
-fn four_words(words: &[u16], at: usize) -> u64
-    ensures { λ r. ⌜ r ≡ numberOf (partAt (now (words .entry)) at 4) ⌝ }
-{
-    if at < words.len() {
-        words::join(&words[at..])
-    } else {
-        0
-    }
-}
-
 // The number of the eight words from `at` on, zeros past the last word.
 pub fn eight_words(words: &[u16], at: usize) -> Halves
     ensures { λ r. ⌜ r .high * 2 ^ 64 + r .low ≡ numberOf (partAt (now (words .entry)) at 8) ⌝ }
@@ -98,8 +88,8 @@ pub fn eight_words(words: &[u16], at: usize) -> Halves
         return Halves { high: 0, low: 0 };
     }
     Halves {
-        high: four_words(words, at + 4),
-        low: four_words(words, at),
+        high: block_at(words, at + 4),
+        low: block_at(words, at),
     }
 }
 
@@ -147,14 +137,14 @@ pub fn unscrambled(constants: &[u16], partition: Partition, block: u64) -> u64
 pub fn stored_digest(cells: &[u16], partition: Partition) -> u64
     ensures { λ r. ⌜ r ≡ storedDigest partition (now (cells .entry)) ⌝ }
 {
-    four_words(cells, partition.digest / 2)
+    block_at(cells, partition.digest / 2)
 }
 
 // The digest of data words, from the start value and the final key of the constants.
 pub fn digest_of(constants: &[u16], data: &[u16]) -> u64
     ensures { λ r. ⌜ r ≡ digestWords (digestStart (now (constants .entry))) (digestFinal (now (constants .entry))) (now («data» .entry)) ⌝ }
 {
-    let start = four_words(constants, DIGEST_START);
+    let start = block_at(constants, DIGEST_START);
     let key = eight_words(constants, DIGEST_FINAL);
     digest::digest(start, key.high, key.low, data)
 }

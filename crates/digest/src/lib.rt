@@ -1,8 +1,8 @@
 // The digest construction over the block cipher.
+use words::block_at;
 ghost use mathlib.Core.Path.{_≡_};
 ghost use Prim.Native.Nat.{_+_, _*_, _^_, _<_};
 ghost use lib.ListN.{length};
-ghost use Rattle.words.specs.Words.{numberOf, partAt};
 ghost use Rattle.digest.specs.Digest.{absorb, absorbAll, blocksOf, digestWords};
 
 // The step of the construction with the key of two halves.
@@ -10,17 +10,6 @@ fn absorbed(key_high: u64, key_low: u64, state: u64) -> u64
     ensures { λ r. ⌜ r ≡ absorb («key_high» * 2 ^ 64 + «key_low») state ⌝ }
 {
     present::encrypt(key_high, key_low, state) ^ state
-}
-
-// The number of the four words from `at` on, zeros past the last word.
-fn block(words: &[u16], at: usize) -> u64
-    ensures { λ r. ⌜ r ≡ numberOf (partAt (now (words .entry)) at 4) ⌝ }
-{
-    if at < words.len() {
-        words::join(&words[at..])
-    } else {
-        0
-    }
 }
 
 // The last chunk, of fewer than eight words; where there is none, the state stays.
@@ -31,7 +20,7 @@ fn absorbed_rest(state: u64, words: &[u16]) -> u64
     if words.len() == 0 {
         return state;
     }
-    absorbed(block(words, 4), block(words, 0), state)
+    absorbed(block_at(words, 4), block_at(words, 0), state)
 }
 
 // The digest of words from a start value, closed with a final key of two halves.
@@ -41,7 +30,7 @@ pub fn digest(start: u64, final_high: u64, final_low: u64, words: &[u16]) -> u64
     let mut state = start;
     let mut at = 0;
     while 8 <= words.len() - at {
-        state = absorbed(block(words, at + 4), block(words, at), state);
+        state = absorbed(block_at(words, at + 4), block_at(words, at), state);
         at += 8;
     }
     let last = absorbed_rest(state, &words[at..]);

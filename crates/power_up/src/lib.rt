@@ -104,7 +104,7 @@ fn sensed_block(cells: &[u16], constants: &[u16], at: usize) -> [u16; 4]
     if rights.lockable {
         return [0, 0, 0, 0];
     }
-    let block = words::join(&cells[at..]);
+    let block = words::block_at(cells, at);
     if partition.digest <= address {
         return words::split(block);
     }

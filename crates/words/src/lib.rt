@@ -2,7 +2,7 @@
 ghost use mathlib.Core.Path.{_≡_};
 ghost use Prim.Native.Nat.{_≤_, min};
 ghost use lib.ListN.{length, take};
-ghost use Rattle.words.specs.Words.{numberOf, wordsOf};
+ghost use Rattle.words.specs.Words.{numberOf, partAt, wordsOf};
 ghost use Rattle.words.specs.Programming.{programAnswer, programCells};
 
 // What programming answers: done, or the index of the lowest cell that refused.
@@ -51,6 +51,17 @@ pub fn join(words: &[u16]) -> u64
         join_few(&words[..4])
     } else {
         join_few(words)
+    }
+}
+
+// The number of the four words from `at` on, zeros past the last word.
+pub fn block_at(words: &[u16], at: usize) -> u64
+    ensures { λ r. ⌜ r ≡ numberOf (partAt (now (words .entry)) at 4) ⌝ }
+{
+    if at < words.len() {
+        join(&words[at..])
+    } else {
+        0
     }
 }
 

@@ -11,11 +11,11 @@ use Rattle.digest.proofs.absorbed_rest.Tie as tie
 returns : tie.Need-returns
 returns c = sym (absorb-none (c .before .before .args .state) (c .before .before .args .words .now) (c .if1 .taken))
 
-block-requires : tie.Need-block-requires
-block-requires c κs = search needs
+block-at-requires : tie.Need-block-at-requires
+block-at-requires c κs = search needs
 
-block-requires-2 : tie.Need-block-requires-2
-block-requires-2 c κs = search needs
+block-at-requires-2 : tie.Need-block-at-requires-2
+block-at-requires-2 c κs = search needs
 
 absorbed-requires : tie.Need-absorbed-requires
 absorbed-requires c κs = search needs
@@ -25,9 +25,9 @@ returns-2 c =
     let o = c .before .before .before .before .before in
     let s = o .args .state in
     c .absorbed .ensures
-    ∙ ap₂ (λ (x y : ℕ). absorb (x * 2 ^ 64 + y) s) (c .before .before .block .ensures) (c .before .block2 .ensures)
+    ∙ ap₂ (λ (x y : ℕ). absorb (x * 2 ^ 64 + y) s) (c .before .before .block-at .ensures) (c .before .block-at2 .ensures)
     ∙ absorb-rest s (o .args .words .now) (omega arith) (o .pre)
 
 pub absorbed-rest-spec : {M : Type 1} → statement M
 absorbed-rest-spec =
-    tie.close (tie.spec returns block-requires block-requires-2 absorbed-requires returns-2)
+    tie.close (tie.spec returns block-at-requires block-at-requires-2 absorbed-requires returns-2)

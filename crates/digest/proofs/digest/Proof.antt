@@ -24,14 +24,14 @@ loop-holds c = (omega arith, refl)
 sub-loop : tie.Need-sub-loop Inv-loop μ-loop
 sub-loop c = search needs
 
-add-block : tie.Need-add-block Inv-loop μ-loop
-add-block c = omega arith
+add-block-at : tie.Need-add-block-at Inv-loop μ-loop
+add-block-at c = omega arith
 
-block-requires : tie.Need-block-requires Inv-loop μ-loop
-block-requires c κs = search needs
+block-at-requires : tie.Need-block-at-requires Inv-loop μ-loop
+block-at-requires c κs = search needs
 
-block-requires-2 : tie.Need-block-requires-2 Inv-loop μ-loop
-block-requires-2 c κs = search needs
+block-at-requires-2 : tie.Need-block-at-requires-2 Inv-loop μ-loop
+block-at-requires-2 c κs = search needs
 
 absorbed-requires : tie.Need-absorbed-requires Inv-loop μ-loop
 absorbed-requires c κs = search needs
@@ -48,7 +48,7 @@ loop-again c =
     let ws = t .before .before .before .args .words .now in
     let at = t .before .loop .at in
     let s = t .before .loop .state in
-    let e = ap₂ (λ (x y : ℕ). absorb (x * 2 ^ 64 + y) s) (c .before .before .block .ensures) (c .before .block2 .ensures) in
+    let e = ap₂ (λ (x y : ℕ). absorb (x * 2 ^ 64 + y) s) (c .before .before .block-at .ensures) (c .before .block-at2 .ensures) in
     (omega arith, t .before .loop .inv .1 ∙ absorb-from s ws at (omega arith) ∙ ap (λ (x : ℕ). absorbAll x (blocksOf (drop (at + 8) ws))) (sym (c .absorbed .ensures ∙ e)))
 
 mul-absorbed-rest : tie.Need-mul-absorbed-rest Inv-loop μ-loop
@@ -89,9 +89,9 @@ digest-spec =
     μ-loop
     loop-holds
     sub-loop
-    add-block
-    block-requires
-    block-requires-2
+    add-block-at
+    block-at-requires
+    block-at-requires-2
     absorbed-requires
     add-at
     loop-less

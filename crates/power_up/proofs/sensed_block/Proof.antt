@@ -6,11 +6,9 @@ use Prim.Native.Nat.{ℕ, _*_, _<_}
 use native.Mathlib.Omega.{arith}
 use borrow.Author.Needs.{needs}
 use lib.Dec.{leb}
-use lib.ListN.{take}
 use borrow.Author.Tests.{le-leb, lt-leb}
-use Rattle.words.specs.Words.{numberOf, wordsOf, partAt}
+use Rattle.words.specs.Words.{wordsOf}
 use Rattle.words.proofs.Words.{Words}
-use Rattle.words.proofs.Parts.{number-part, rest-slice}
 use Rattle.partitions.specs.declared.Partition.{Partition}
 use Rattle.partitions.specs.declared.Rights.{Rights}
 use Rattle.partitions.specs.Map.{rightsOf, partition, partitionAt, limit, inDigest}
@@ -50,12 +48,6 @@ module _ (t : tie.After-rights) where
   small : Words cells
   small = record { small = λ i. omega (arith, t .before .before .before .before .shared-slice-known .given i) }
 
--- the number of the block
-joined : (j : tie.After-join) → j .join .result ≡ numberOf (partAt (cells (j .before .before .before)) (at (j .before .before .before)) 4)
-joined j =
-    let t = j .before .before .before in
-    j .join .ensures ∙ ap (λ (l : List ℕ). numberOf (take 4 l)) (rest-slice (cells t) (at t)) ∙ sym (number-part (cells t) (at t) 4)
-
 mul-address : tie.Need-mul-address
 mul-address c = search needs
 
@@ -73,20 +65,8 @@ returns c =
     let t = c .before in
     zero-block primitives map1 map1-fit _ _ (at t) (start t .pre .0) (known t) (lockable t (c .if1 .taken))
 
-mul-join : tie.Need-mul-join
-mul-join c = search needs
-
-sub-join : tie.Need-sub-join
-sub-join c = search needs
-
-part-join-start : tie.Need-part-join-start
-part-join-start c = search needs
-
-part-join-end : tie.Need-part-join-end
-part-join-end c = search needs
-
-join-requires : tie.Need-join-requires
-join-requires c κs = search needs
+block-at-requires : tie.Need-block-at-requires
+block-at-requires c κs = search needs
 
 split-requires : tie.Need-split-requires
 split-requires c κs = search needs
@@ -94,10 +74,10 @@ split-requires c κs = search needs
 returns-2 : tie.Need-returns-2
 returns-2 c =
     let j = c .before .before .before in
-    let t = j .before .before .before in
+    let t = j .before .before in
     c .split .ensures
-    ∙ ap (wordsOf 4) (joined j)
-    ∙ digest-block primitives map1 map1-fit _ _ (at t) (start t .pre .0) (known t) (small t) (lockable t (j .before .before .if1 .left))
+    ∙ ap (wordsOf 4) (j .block-at .ensures)
+    ∙ digest-block primitives map1 map1-fit _ _ (at t) (start t .pre .0) (known t) (small t) (lockable t (j .before .if1 .left))
     (side t (le-leb _ _ (c .before .if2 .taken)))
 
 unscrambled-requires : tie.Need-unscrambled-requires
@@ -109,11 +89,11 @@ split-requires-2 c κs = search needs
 returns-3 : tie.Need-returns-3
 returns-3 c =
     let j = c .before .before .before .before in
-    let t = j .before .before .before in
-    let block = ap₂ (unscrambled primitives map1 (start t .args .constants .now)) (found t) (joined j) in
+    let t = j .before .before in
+    let block = ap₂ (unscrambled primitives map1 (start t .args .constants .now)) (found t) (j .block-at .ensures) in
     c .split2 .ensures
     ∙ ap (wordsOf 4) (c .before .unscrambled .ensures ∙ block)
-    ∙ data-block primitives map1 map1-fit _ _ (at t) (start t .pre .0) (known t) (small t) (lockable t (j .before .before .if1 .left))
+    ∙ data-block primitives map1 map1-fit _ _ (at t) (start t .pre .0) (known t) (small t) (lockable t (j .before .if1 .left))
     (side t (lt-leb _ _ (c .before .before .if2 .left)))
 
 pub sensed-block-spec : {M : Type 1} → statement M
@@ -125,11 +105,7 @@ sensed-block-spec =
     partition-of-requires
     rights-requires
     returns
-    mul-join
-    sub-join
-    part-join-start
-    part-join-end
-    join-requires
+    block-at-requires
     split-requires
     returns-2
     unscrambled-requires

@@ -4,10 +4,10 @@ use mathlib.Core.List.{List}
 use Prim.Native.Nat.{ℕ}
 use borrow.Author.Needs.{needs}
 use lib.ListN.{take}
 use Rattle.words.specs.Words.{numberOf}
 use Rattle.words.proofs.Parts.{number-part, rest-slice, zeros-past}
-use Rattle.digest.proofs.block.Statement.{statement}
-use Rattle.digest.proofs.block.Tie as tie
+use Rattle.words.proofs.block_at.Statement.{statement}
+use Rattle.words.proofs.block_at.Tie as tie
 
 mul-join : tie.Need-mul-join
 mul-join c = search needs
@@ -33,7 +33,7 @@ returns c =
 returns-2 : tie.Need-returns-2
 returns-2 c = sym (zeros-past (c .before .before .args .words .now) (c .before .before .args .at) 4 (c .if1 .left))
 
-pub block-spec : {M : Type 1} → statement M
-block-spec =
+pub block-at-spec : {M : Type 1} → statement M
+block-at-spec =
     tie.close
     (tie.spec mul-join sub-join part-join-start part-join-end join-requires returns returns-2)
