@@ -4,8 +4,8 @@ use Prim.Native.Nat.{ℕ, zero, suc, _+_, _*_, _/_, _%_, _^_, _≤_, _<_, max}
 use native.Mathlib.Nat.{mod-lt, div-add-mod', pow-suc}
 use native.Mathlib.Omega.{arith}
 use lib.Arith.{bin-ind}
-use lib.Bits.{bitOr, bitXor, differ, or-step, or-shr, or-zero-l, xor-step, xor-self, xor-shr, xor-mod, or-shifted-r}
-use lib.Pow.{pow-pos, shl-exact, shr-shr}
+use lib.Bits.{bitOr, bitXor, differ, or-step, or-shr, or-zero-l, xor-step, xor-self, xor-shr, xor-mod}
+use lib.Pow.{pow-pos, shr-shr}
 use Rattle.basics.specs.Digits.{bit}
 
 pub bit-or : (a b k : ℕ) → bit (bitOr a b) k ≡ max (bit a k) (bit b k)
@@ -45,7 +45,3 @@ xor-xor =
     one-bit (suc zero) (suc zero) h k = refl
     one-bit (suc zero) (suc (suc y)) h k = absurd (omega arith)
     one-bit (suc (suc x)) y h k = absurd (omega arith)
-
--- `b | (a << k)`
-pub or-put : (a b j k : ℕ) → a < 2 ^ j → b < 2 ^ k → j + k ≤ 64 → bitOr b (a * 2 ^ k % 2 ^ 64) ≡ a * 2 ^ k + b
-or-put a b j k ha hb h = ap (bitOr b) (shl-exact j k 64 ha h) ∙ or-shifted-r a k b hb

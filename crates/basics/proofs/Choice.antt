@@ -1,9 +1,10 @@
 -- Laws of Booleans and of choice. The idea: a test whose value a goal doesn't show is taken apart once, here.
-use mathlib.Core.Path.{_≡_, refl, sym, subst}
-use mathlib.Core.Bool.{Bool, true, false, _&&_, _||_}
+use mathlib.Core.Path.{_≡_, refl, sym, subst, _∙_}
+use mathlib.Core.Bool.{Bool, true, false, not, _&&_, _||_}
 use Prim.Native.Nat.{ℕ}
 use native.Mathlib.Omega.{arith}
-use lib.Dec.{T}
+use lib.Dec.{T, T-not, eqb}
+use borrow.Author.Tests.{eq-eqb}
 use Rattle.basics.specs.Choice.{if_then_else_}
 
 -- a test is true or false, and each case may use which
@@ -20,6 +21,10 @@ from-T {b = false} t = absurd t
 
 pub to-T : {b : Bool} → b ≡ true → T b
 to-T e = subst T (sym e) tt
+
+-- two numbers that are computed to differ
+pub unequal : {m n : ℕ} → T (not (eqb m n)) → m ≡ n → ⊥
+unequal {m} {n} t e = T-not (eqb m n) t (to-T (eq-eqb m n e))
 
 -- a test that can't pass fails
 pub not-passed : (b : Bool) → (b ≡ true → ⊥) → b ≡ false
@@ -38,6 +43,15 @@ pub and-both : (a b : Bool) → a ≡ true → b ≡ true → (a && b) ≡ true
 and-both true b e f = f
 and-both false b e f = e
 
+pub and-three : (a b c : Bool) → (a && b && c) ≡ true → (a ≡ true) × (b ≡ true) × (c ≡ true)
+and-three a b c h =
+    let l : (a && b) ≡ true = and-left (a && b) c h in
+    (and-left a b l, and-right a b l, and-right (a && b) c h)
+
+pub and-false : (a : Bool) {b : Bool} → b ≡ false → (a && b) ≡ false
+and-false true e = e
+and-false false e = refl
+
 pub or-none-left : (a b : Bool) → (a || b) ≡ false → a ≡ false
 or-none-left true b e = e
 or-none-left false b e = refl
@@ -53,6 +67,10 @@ if-true x y e = rw e
 pub if-false {ℓ} : {A : Type ℓ} {b : Bool} (x y : A) → b ≡ false → (if b then x else y) ≡ y
 unfolding if_then_else_
 if-false x y e = rw e
+
+pub if-same {ℓ} : {A : Type ℓ} {b : Bool} {x y x′ y′ : A} → (b ≡ true → x ≡ x′) → (b ≡ false → y ≡ y′) → (if b then x else y) ≡ (if b then x′ else y′)
+if-same {b = b} {x = x} {y = y} {x′ = x′} {y′ = y′} f g =
+    by-cases b (λ t. if-true x y t ∙ f t ∙ sym (if-true x′ y′ t)) (λ t. if-false x y t ∙ g t ∙ sym (if-false x′ y′ t))
 
 -- what holds of both branches holds of the choice
 pub if-both {ℓ κ} : {A : Type ℓ} (P : A → Type κ) (b : Bool) (x y : A) → (b ≡ true → P x) → (b ≡ false → P y) → P (if b then x else y)

@@ -2,12 +2,13 @@
 use mathlib.Core.Path.{_≡_, refl, sym, ap, ap₂, _∙_}
 use mathlib.Core.Bool.{Bool, true, false}
 use mathlib.Core.List.{List, _∷_}
-use Prim.Native.Nat.{ℕ, zero, suc, _+_, _<_}
+use Prim.Native.Nat.{ℕ, zero, suc, _+_, _≤_, _<_}
 use native.Mathlib.Nat.{add-zero, add-suc, suc-add, zero-add}
+use native.Mathlib.Numerals.{add-one}
 use native.Mathlib.Omega.{arith}
 use lib.Dec.{T, eqb}
-use lib.ListN.{length, getD, set}
-use lib.Seq.{ext-getD, getD-set-same, getD-set-other}
+use lib.ListN.{length, getD, set, length-set}
+use lib.Seq.{sets, ext-getD, getD-set-same, getD-set-other}
 use borrow.Author.Tests.{eqb-true, eqb-false}
 use Rattle.basics.specs.Range.{allBelow, anyBelow, listed}
 use Rattle.basics.proofs.Choice.{by-cases, from-T, to-T, and-left, and-right, or-none-left, or-none-right}
@@ -55,9 +56,12 @@ listed-shift f g i k zero h = refl
 listed-shift f g i k (suc n) h = ap₂ (λ x l. x ∷ l) (h i) (ap (λ (m : ℕ). listed f m n) (sym (add-suc k i)) ∙ listed-shift f g (suc i) k n h)
 
 -- a list whose entries follow the rule
+pub is-listed-from : (f : ℕ → ℕ) (i n : ℕ) (xs : List ℕ) → length xs ≡ n → ((k : ℕ) → k < n → getD xs k 0 ≡ f (i + k)) → xs ≡ listed f i n
+is-listed-from f i n xs e h =
+    ext-getD 0 xs (listed f i n) (e ∙ sym (length-listed f i n)) (λ k l. let m : k < n = rw e at l in h k m ∙ sym (listed-from f 0 i n k m))
+
 pub is-listed : (f : ℕ → ℕ) (n : ℕ) (xs : List ℕ) → length xs ≡ n → ((k : ℕ) → k < n → getD xs k 0 ≡ f k) → xs ≡ listed f 0 n
-is-listed f n xs e h =
-    ext-getD 0 xs (listed f 0 n) (e ∙ sym (length-listed f 0 n)) (λ k l. let m : k < n = rw e at l in h k m ∙ sym (listed-at f 0 n k m))
+is-listed f n xs e h = is-listed-from f 0 n xs e (λ k l. h k l ∙ ap f (sym (zero-add k)))
 
 -- one more entry stored: the first i + 1 follow the rule
 pub set-more : (f : ℕ → ℕ) (xs : List ℕ) (i a : ℕ) → i < length xs → a ≡ f i → ((j : ℕ) → j < i → getD xs j 0 ≡ f j)
@@ -65,3 +69,34 @@ pub set-more : (f : ℕ → ℕ) (xs : List ℕ) (i a : ℕ) → i < length xs �
 set-more f xs i a h e known j k =
     by-cases (eqb j i) (λ q. rw (eqb-true j i q) (getD-set-same xs i a 0 h ∙ e))
     (λ q. getD-set-other xs i j a 0 (eqb-false j i q) ∙ known j (omega (arith, eqb-false)))
+
+-- n more entries stored
+pub sets-more : (f : ℕ → ℕ) (n : ℕ) (xs : List ℕ) (i : ℕ) → i + n ≤ length xs → ((j : ℕ) → j < i → getD xs j 0 ≡ f j)
+    → (j : ℕ) → j < i + n → getD (sets xs i (listed f i n)) j 0 ≡ f j
+unfolding listed
+sets-more f zero xs i h known j l = known j (omega arith)
+sets-more f (suc n) xs i h known j l =
+    sets-more f n (set xs i (f i)) (suc i) (rw length-set (omega arith)) (set-more f xs i (f i) (omega arith) refl known) j (omega arith)
+
+-- ---- a loop that stores one entry a turn
+
+-- the first i of n entries follow the rule
+pub record Follows (f : ℕ → ℕ) (n : ℕ) (xs : List ℕ) (i : ℕ) : Type 0 where
+  pub within : i ≤ n
+  pub size : length xs ≡ n
+  pub entry : (j : ℕ) → j < i → getD xs j 0 ≡ f j
+
+module _ {f : ℕ → ℕ} {n : ℕ} {xs : List ℕ} where
+  pub follows-none : length xs ≡ n → Follows f n xs 0
+  follows-none e = record { within = omega arith; size = e; entry = λ j h. absurd (omega arith) }
+
+  pub follows-more : {i a : ℕ} → Follows f n xs i → i < n → a ≡ f i → Follows f n (set xs i a) (i + 1)
+  follows-more {i} {a} g h e =
+      record {
+        within = omega arith;
+        size = length-set xs i a ∙ g .size;
+        entry = rw (add-one i) (set-more f xs i a (omega (arith, g .size)) e (g .entry));
+      }
+
+  pub follows-all : {i : ℕ} → Follows f n xs i → n ≤ i → xs ≡ listed f 0 n
+  follows-all g h = is-listed f n xs (g .size) (λ k l. g .entry k (omega arith))

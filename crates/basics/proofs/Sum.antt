@@ -14,11 +14,6 @@ unfolding sum
 sum-same zero f g h = refl
 sum-same (suc n) f g h = ap₂ (λ (x y : ℕ). x + y) (h n (omega arith)) (sum-same n f g (λ i l. h i (omega arith)))
 
-pub sum-le : (n : ℕ) (f g : ℕ → ℕ) → ((i : ℕ) → i < n → f i ≤ g i) → sum n f ≤ sum n g
-unfolding sum
-sum-le zero f g h = omega arith
-sum-le (suc n) f g h = omega (arith, h n (omega arith), sum-le n f g (λ i l. h i (omega arith)))
-
 pub sum-upto : (n i : ℕ) (f : ℕ → ℕ) → i ≤ n → sum i f ≤ sum n f
 unfolding sum
 sum-upto zero i f h = let e : i ≡ 0 = omega arith in rw e (omega arith)

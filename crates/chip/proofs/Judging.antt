@@ -7,7 +7,7 @@ use native.Mathlib.Omega.{arith}
 use lib.Dec.{eqb}
 use lib.ListN.{length}
 use borrow.Author.Tests.{eq-eqb, ne-eqb, eqb-true}
-use Rattle.basics.proofs.Choice.{by-cases, if-true, if-false, and-left, and-right}
+use Rattle.basics.proofs.Choice.{by-cases, and-three, and-false, if-true, if-false}
 use Rattle.partitions.specs.Map1.{map1}
 use Rattle.partitions.proofs.Map1.{map1-limit}
 use Rattle.life_cycle.specs.Constants.{validConstants}
@@ -30,18 +30,14 @@ pub wrong-length : (cells copy : ℕ) (k : List ℕ) → lengths cells copy k �
 unfolding judgedOf
 wrong-length cells copy k e = sym (rw e (if-true _ _ refl))
 
-and-false : (b : Bool) → (b && false) ≡ false
-and-false true = refl
-and-false false = refl
-
 pub cells-wrong : (cells copy : ℕ) (k : List ℕ) → (cells ≡ 448 → ⊥) → lengths cells copy k ≡ false
 cells-wrong cells copy k h = rw (ne-eqb cells 448 h)
 
 pub copy-wrong : (cells copy : ℕ) (k : List ℕ) → (copy ≡ 448 → ⊥) → lengths cells copy k ≡ false
-copy-wrong cells copy k h = rw (ne-eqb copy 448 h, and-false (eqb cells 448))
+copy-wrong cells copy k h = rw (and-false (eqb cells 448) (ne-eqb copy 448 h))
 
 pub constants-wrong : (cells copy : ℕ) (k : List ℕ) → (length k ≡ 132 → ⊥) → lengths cells copy k ≡ false
-constants-wrong cells copy k h = rw (ne-eqb (length k) 132 h) (and-false (eqb cells 448 && eqb copy 448))
+constants-wrong cells copy k h = and-false (eqb cells 448 && eqb copy 448) (ne-eqb (length k) 132 h)
 
 pub lengths-right : (cells copy : ℕ) (k : List ℕ) → cells ≡ 448 → copy ≡ 448 → length k ≡ 132 → lengths cells copy k ≡ true
 lengths-right cells copy k a b c = rw (eq-eqb cells 448 a, eq-eqb copy 448 b, eq-eqb (length k) 132 c)
@@ -75,13 +71,8 @@ accepted-right cells copy k e = by-cases (lengths cells copy k) (λ t. by-cases 
 
     good : lengths cells copy k ≡ true → validConstants k ≡ true → Right cells copy k
     good t v =
-        let ab = and-left (eqb cells 448 && eqb copy 448) _ t in
-        record {
-          cells-right = eqb-true _ _ (and-left (eqb cells 448) _ ab);
-          copy-right = eqb-true _ _ (and-right (eqb cells 448) _ ab);
-          constants-right = eqb-true _ _ (and-right (eqb cells 448 && eqb copy 448) _ t);
-          valid = v;
-        }
+        let s = and-three (eqb cells 448) (eqb copy 448) _ t in
+        record { cells-right = eqb-true _ _ (s .0); copy-right = eqb-true _ _ (s .1); constants-right = eqb-true _ _ (s .2); valid = v }
 
 pub accepted-step : (x : Command) (m : Machine) → judgedOf (length (m .lent .cells)) (length (m .lent .copy)) (m .lent .constants) ≡ Accepted
     → step primitives map1 x m ≡ obey primitives map1 x m

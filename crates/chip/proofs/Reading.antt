@@ -2,12 +2,10 @@
 use mathlib.Core.Path.{_≡_, sym, ap}
 use mathlib.Core.Bool.{true, false}
 use mathlib.Core.List.{List}
-use Prim.Native.Nat.{ℕ, suc, _+_, _*_, _-_, _/_, _^_, _≤_}
+use Prim.Native.Nat.{ℕ, _-_, _/_, _≤_}
 use native.Mathlib.Omega.{arith}
 use lib.ListN.{length, take, drop}
-use Rattle.basics.specs.Range.{listed}
 use Rattle.basics.proofs.Choice.{if-true, if-false}
-use Rattle.words.specs.Words.{numberOf, partAt}
 use Rattle.words.proofs.Parts.{part-slice}
 use Rattle.present.specs.Present.{encryptBlock, decryptBlock}
 use Rattle.digest.specs.Digest.{digestWords}
@@ -17,13 +15,6 @@ use Rattle.partitions.specs.Map1.{map1}
 use Rattle.model.specs.Lent.{keyOf, digestStart, digestFinal}
 use Rattle.model.specs.Commands.{dataWords, scrambled, unscrambled, computedDigest}
 use Rattle.chip.specs.Chip.{primitives}
-
--- the number of eight words, by its high and its low half
-pub number-halves : (c : List ℕ) (at : ℕ) → numberOf (partAt c (at + 4) 4) * 2 ^ 64 + numberOf (partAt c at 4) ≡ numberOf (partAt c at 8)
-unfolding partAt listed numberOf
-number-halves c at =
-    let e : at + 4 ≡ suc (suc (suc (suc at))) = omega arith in
-    rw e (omega arith)
 
 -- a secret's blocks are stored scrambled, all others plain
 module _ (k : List ℕ) (p : Partition) (block : ℕ) where

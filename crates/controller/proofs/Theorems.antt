@@ -15,4 +15,4 @@ pub chip-demand3 : Demand3 primitives map1
 chip-demand3 = demand3 primitives present-cipher map1 map1-fit
 
 pub chip-beyond : Beyond primitives map1
-chip-beyond = beyond primitives map1 map1-fit
+chip-beyond = beyond primitives present-cipher map1 map1-fit

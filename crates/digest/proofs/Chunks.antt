@@ -1,5 +1,5 @@
 -- Eight words are one chunk of two blocks. The idea: the blocks of the words from the ninth on are the blocks from the third on.
-use mathlib.Core.Path.{_≡_, sym, ap, _∙_}
+use mathlib.Core.Path.{_≡_, ap, _∙_}
 use mathlib.Core.List.{List}
 use Prim.Native.Nat.{ℕ, suc, _+_, _*_, _-_, _/_, _^_, _≤_, _<_}
 use native.Mathlib.Nat.{zero-add, add-zero}
@@ -24,13 +24,13 @@ abbrev pub chunk : List ℕ → ℕ
 chunk ws = numberOf (partAt ws 4 4) * 2 ^ 64 + numberOf (partAt ws 0 4)
 
 blocks-later : (ws : List ℕ) (n : ℕ) → listed (blockAt ws) 2 n ≡ listed (blockAt (drop 8 ws)) 0 n
-blocks-later ws n = listed-shift (blockAt ws) (blockAt (drop 8 ws)) 0 2 n (λ j. ap numberOf (ap (λ (i : ℕ). partAt ws i 4) (later j) ∙ sym (part-drop ws 8 (4 * j) 4)))
+blocks-later ws n = listed-shift (blockAt ws) (blockAt (drop 8 ws)) 0 2 n later
   where
-    later : (j : ℕ) → 4 * (2 + j) ≡ 8 + 4 * j
-    later j = omega arith
+    later : (j : ℕ) → blockAt ws (2 + j) ≡ blockAt (drop 8 ws) j
+    later j = let e : 4 * (2 + j) ≡ 8 + 4 * j = omega arith in rw (part-drop, e)
 
 -- a whole chunk, and the rest
-pub absorb-chunk : (s : ℕ) (ws : List ℕ) → 8 ≤ length ws → absorbAll s (blocksOf ws) ≡ absorbAll (absorb (chunk ws) s) (blocksOf (drop 8 ws))
+absorb-chunk : (s : ℕ) (ws : List ℕ) → 8 ≤ length ws → absorbAll s (blocksOf ws) ≡ absorbAll (absorb (chunk ws) s) (blocksOf (drop 8 ws))
 unfolding blocksOf absorbAll listed
 absorb-chunk s ws h =
     let n = (length ws - 8 + 3) / 4 in

@@ -1,4 +1,4 @@
 pub mod Places
 pub mod Decisions
 pub mod Results
-pub mod Commands
+pub mod ReadLock

@@ -27,20 +27,15 @@ use Rattle.chip.proofs.Admission.{by-judged, admitted}
 use Rattle.direct_access.specs.declared.Reached.the-variants.{At, Refused}
 use Rattle.direct_access.specs.Access.{placeOf, reachedOf}
 
--- n and p are the number and the partition of the address a
-pub record Lies (a n : ℕ) (p : Partition) : Type 0 where
-  pub within : a < limit map1
-  pub number : n ≡ numberAt map1 a
-  pub found : p ≡ partitionAt map1 a
-
 -- the slice of a granule, joined
 pub granule-slice : (ws : List ℕ) (p : Partition) (a at n : ℕ) → at ≡ firstWord p a → n ≡ wordCount p a → firstWord p a + wordCount p a ≤ length ws
     → wordCount p a ≤ 4 → numberOf (take 4 (take (at + n - at) (drop at ws))) ≡ granule p ws a
 unfolding granule
 granule-slice ws p a at n e f l u =
     let s : at + n - at ≡ n = omega arith in
-    rw (s, e, f)
-    (ap numberOf (take-all 4 _ (omega (arith, length-take-le (wordCount p a) (drop (firstWord p a) ws) (rw length-drop (omega arith)))) ∙ sym (part-slice ws (firstWord p a) (wordCount p a) l)))
+    let w = firstWord p a in
+    let whole = length-take-le (wordCount p a) (drop w ws) (rw length-drop (omega arith)) in
+    rw (s, e, f) (ap numberOf (take-all 4 _ (omega (arith, whole)) ∙ sym (part-slice ws w (wordCount p a) l)))
 
 module _ (cells copy : ℕ) (k : List ℕ) (phase : Phase) (a : ℕ) where
   -- ---- what the code finds
@@ -64,9 +59,12 @@ module _ (cells copy : ℕ) (k : List ℕ) (phase : Phase) (a : ℕ) where
 
   -- ---- what follows from it
 
+  -- n and p are the number and the partition of the address
   pub record Place (n : ℕ) (p : Partition) : Type 0 where
     pub admitted-there : admittedOf cells copy k phase ≡ judged.Accepted
-    pub lies : Lies a n p
+    pub within : a < limit map1
+    pub number : n ≡ numberAt map1 a
+    pub found : p ≡ partitionAt map1 a
     pub cells-held : cells ≡ 448
     pub copy-held : copy ≡ 448
 
@@ -91,7 +89,9 @@ module _ (cells copy : ℕ) (k : List ℕ) (phase : Phase) (a : ℕ) where
           let t = accepted-right cells copy k (admitted cells copy k phase e .0) in
           record {
             admitted-there = e;
-            lies = record { within = h; number = cc; found = cc };
+            within = h;
+            number = cc;
+            found = cc;
             cells-held = t .cells-right;
             copy-held = t .copy-right;
           }
@@ -108,14 +108,14 @@ module _ (cells copy : ℕ) (k : List ℕ) (phase : Phase) (a : ℕ) where
   unfolding partitionAt
   held n p r =
       let l = reached-at n p r in
-      let h = l .lies .within in
+      let h = l .within in
       let i = inside map1 map1-fit h in
       let w = granule-within map1 map1-fit h in
       let u = end-within map1 map1-fit (i .known) in
       let f = i .fits in
       let few = granule-inside map1 map1-fit h .few in
       let e = map1-limit in
-      rw (l .lies .found)
+      rw (l .found)
       (record {
         granule-in-cells = omega (arith, l .cells-held);
         granule-in-copy = omega (arith, l .copy-held);

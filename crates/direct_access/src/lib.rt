@@ -37,6 +37,7 @@ fn reach(cells: usize, copy: usize, constants: &[u16], session: Session, address
     }
 }
 
+// Direct access, no hardware digest, not sensed locked.
 fn may_write(session: Session, number: usize, partition: Partition, address: usize) -> bool
     ensures { λ r. ⌜ r ≡ mayWrite session number partition address ⌝ }
 {
@@ -47,6 +48,7 @@ fn may_write(session: Session, number: usize, partition: Partition, address: usi
     rights.direct & !in_digest & !locked
 }
 
+// Direct access; data only where it is not read-locked and no secret that is sensed locked.
 fn may_read(session: Session, number: usize, partition: Partition, address: usize) -> bool
     ensures { λ r. ⌜ r ≡ mayRead session number partition address ⌝ }
 {
@@ -57,6 +59,7 @@ fn may_read(session: Session, number: usize, partition: Partition, address: usiz
     rights.direct & ((partition.digest <= address) | data)
 }
 
+// Data of a partition with front reads.
 fn may_front_read(partition: Partition, address: usize) -> bool
     ensures { λ r. ⌜ r ≡ mayFrontRead partition address ⌝ }
 {
@@ -65,6 +68,7 @@ fn may_front_read(partition: Partition, address: usize) -> bool
     rights.front & !(partition.digest <= address)
 }
 
+// The start of a partition with a hardware digest, not sensed locked.
 fn may_digest(session: Session, number: usize, partition: Partition, address: usize) -> bool
     ensures { λ r. ⌜ r ≡ mayDigest session number partition address ⌝ }
 {
@@ -97,6 +101,7 @@ fn read_value(cells: &[u16], constants: &[u16], partition: Partition, address: u
     chip::unscrambled(constants, partition, stored)
 }
 
+// 4 where a cell refused, else done with a value.
 fn answer_of(programmed: Programmed, value: u64) -> Answer
     ensures { λ r. ⌜ r ≡ programmedAnswer programmed value ⌝ }
 {
@@ -106,6 +111,7 @@ fn answer_of(programmed: Programmed, value: u64) -> Answer
     }
 }
 
+// Read: the granule of an address, in the cells.
 pub fn read(
     cells: &[u16],
     copy: &[u16],
@@ -134,6 +140,7 @@ pub fn read(
     }
 }
 
+// Write: programs the granule of an address; a 4-byte granule uses the low half of the value.
 pub fn write(
     cells: &mut [u16],
     copy: &[u16],
@@ -166,6 +173,7 @@ pub fn write(
     }
 }
 
+// Front read: the granule of an address in HW_CFG data, in the sensed copy.
 pub fn front_read(
     cells: &[u16],
     copy: &[u16],
@@ -194,6 +202,7 @@ pub fn front_read(
     }
 }
 
+// Digest: computed over the stored data words of the partition that starts at the address, programmed, and answered.
 pub fn digest(
     cells: &mut [u16],
     copy: &[u16],
@@ -226,6 +235,7 @@ pub fn digest(
     }
 }
 
+// Read lock: of partition 0 or 1, until the next power-up.
 pub fn read_lock(
     cells: &[u16],
     copy: &[u16],

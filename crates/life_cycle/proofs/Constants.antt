@@ -1,14 +1,13 @@
 -- Laws of valid constants. The idea: the test passes at each pair, and the parts of a passed test are what a pair is known for.
 use mathlib.Core.Path.{_≡_, sym, _∙_}
-use mathlib.Core.Bool.{Bool, true, false, not, _&&_}
+use mathlib.Core.Bool.{Bool, true, false, not}
 use mathlib.Core.List.{List}
 use Prim.Native.Nat.{ℕ, _<_}
 use lib.Bits.{bitOr, or-zero-r}
-use lib.Dec.{T, eqb, ltb}
+use lib.Dec.{eqb}
 use borrow.Author.Tests.{eqb-false, eq-eqb, ne-eqb, not-true}
-use Rattle.basics.specs.Choice.{if_then_else_}
-use Rattle.basics.specs.Range.{allBelow, anyBelow, listed}
-use Rattle.basics.proofs.Choice.{by-cases, true-not-false, to-T, and-left, and-right}
+use Rattle.basics.specs.Range.{allBelow}
+use Rattle.basics.proofs.Choice.{by-cases, true-not-false, to-T, and-left, and-right, and-three}
 use Rattle.basics.proofs.Range.{all-at}
 use Rattle.words.specs.Programming.{losesBit}
 use Rattle.words.proofs.Programming.{or-keeps, keeps-or}
@@ -23,12 +22,8 @@ pub record Pair (low up : ℕ) : Type 0 where
 pub pair : (low up : ℕ) → pairValid low up ≡ true → Pair low up
 unfolding pairValid
 pair low up e =
-    let both = and-left (not (eqb low 0) && not (eqb low up)) _ e in
-    record {
-      nonzero = eqb-false low 0 (not-true _ (and-left (not (eqb low 0)) _ both));
-      differs = eqb-false low up (not-true _ (and-right (not (eqb low 0)) _ both));
-      covered = not-true _ (and-right (not (eqb low 0) && not (eqb low up)) _ e);
-    }
+    let p = and-three (not (eqb low 0)) (not (eqb low up)) _ e in
+    record { nonzero = eqb-false low 0 (not-true _ (p .0)); differs = eqb-false low up (not-true _ (p .1)); covered = not-true _ (p .2) }
 
 -- as code tests it
 pub or-test : (low up : ℕ) → low < 65536 → eqb (bitOr low up) up ≡ not (losesBit low up)
@@ -52,8 +47,3 @@ module _ (constants : List ℕ) (valid : validConstants constants ≡ true) wher
       let first : ℕ → Bool = λ i. pairValid (constC constants i) (constD constants i) in
       let test : ℕ → Bool = λ i. pairValid (constA constants i) (constB constants i) in
       pair _ _ (all-at 20 test (to-T (and-right (allBelow 24 first) _ valid)) i h)
-
--- there are valid constants: 1 for each lower and 3 for each upper one
-some-valid : T (validConstants (listed (λ i. if ltb i 60 then 1 else if ltb i 84 then 3 else if ltb i 104 then 1 else 3) 0 132))
-unfolding validConstants pairValid losesBit allBelow anyBelow listed if_then_else_
-some-valid = tt

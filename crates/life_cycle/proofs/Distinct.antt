@@ -67,11 +67,13 @@ module _ (constants : List ℕ) (words : Words constants) (valid : validConstant
   pub counter-distinct : (m n : ℕ) → m ≤ 24 → n ≤ 24 → counterWords constants m ≡ counterWords constants n → m ≡ n
   unfolding counterWord
   counter-distinct m n a b e =
-      told-apart _ 24 25 counts-told (constC constants) (constD constants) (counter-pair constants valid) (λ i. words .small (36 + i)) m n (omega arith) (omega arith)
+      told-apart _ 24 25 counts-told (constC constants) (constD constants) (counter-pair constants valid) (λ i. words .small (36 + i)) m n
+      (omega arith) (omega arith)
       (λ i h. sym (counter-at constants m i h) ∙ ap (λ (ws : List ℕ). getD ws i 0) e ∙ counter-at constants n i h)
 
   pub state-distinct : (s t : ℕ) → s ≤ 20 → t ≤ 20 → stateWords constants s ≡ stateWords constants t → s ≡ t
   unfolding stateWord
   state-distinct s t a b e =
-      told-apart _ 20 21 states-told (constA constants) (constB constants) (state-pair constants valid) (λ i. words .small (84 + i)) s t (omega arith) (omega arith)
+      told-apart _ 20 21 states-told (constA constants) (constB constants) (state-pair constants valid) (λ i. words .small (84 + i)) s t
+      (omega arith) (omega arith)
       (λ i h. sym (state-at constants s i h) ∙ ap (λ (ws : List ℕ). getD ws i 0) e ∙ state-at constants t i h)

@@ -7,7 +7,7 @@ use lib.Dec.{T, eqb, leb, ltb}
 use borrow.Author.Tests.{eqb-true, leb-true, ltb-true, ne-eqb}
 use Rattle.basics.specs.Choice.{if_then_else_}
 use Rattle.basics.specs.Range.{allBelow}
-use Rattle.basics.proofs.Choice.{to-T, by-cases, and-left, and-right, if-false}
+use Rattle.basics.proofs.Choice.{to-T, by-cases, and-left, and-right, and-three, if-false}
 use Rattle.basics.proofs.Range.{all-at}
 use Rattle.life_cycle.specs.declared.Token.{Token}
 use Rattle.life_cycle.specs.declared.Entry.{Entry}
@@ -54,51 +54,28 @@ pub record Ends (s t : ℕ) : Type 0 where
 
 module _ (s t : ℕ) where
   raw : (eqb s 0 && eqb t 1) ≡ true → Ends s t
-  raw q =
-      let a = eqb-true s 0 (and-left (eqb s 0) _ q) in
-      let b = eqb-true t 1 (and-right (eqb s 0) _ q) in
-      record { start = omega arith; above = omega arith; within = omega arith }
+  raw q = omega (arith, eqb-true s 0 (and-left (eqb s 0) _ q), eqb-true t 1 (and-right (eqb s 0) _ q))
 
   lock : (isUnlocked s && isLocked t && leb (testIndex s) (testIndex t)) ≡ true → Ends s t
-  lock q =
-      let both = and-left (isUnlocked s && isLocked t) _ q in
-      let a = unlocked-ends s (and-left (isUnlocked s) _ both) in
-      let b = locked-ends t (and-right (isUnlocked s) _ both) in
-      record { start = omega arith; above = omega arith; within = omega arith }
+  lock q = let p = and-three (isUnlocked s) (isLocked t) _ q in omega (arith, unlocked-ends s (p .0), locked-ends t (p .1))
 
   unlock : (isLocked s && isUnlocked t && ltb (testIndex s) (testIndex t)) ≡ true → Ends s t
-  unlock q =
-      let both = and-left (isLocked s && isUnlocked t) _ q in
-      let a = locked-ends s (and-left (isLocked s) _ both) in
-      let b = unlocked-ends t (and-right (isLocked s) _ both) in
-      record { start = omega arith; above = omega arith; within = omega arith }
+  unlock q = let p = and-three (isLocked s) (isUnlocked t) _ q in omega (arith, locked-ends s (p .0), unlocked-ends t (p .1))
 
   leave : (isTest s && leb 16 t && leb t 18) ≡ true → Ends s t
-  leave q =
-      let both = and-left (isTest s && leb 16 t) _ q in
-      let a = test-ends s (and-left (isTest s) _ both) in
-      let b = leb-true 16 t (and-right (isTest s) _ both) in
-      let c = leb-true t 18 (and-right (isTest s && leb 16 t) _ q) in
-      record { start = omega arith; above = omega arith; within = omega arith }
+  leave q = let p = and-three (isTest s) (leb 16 t) _ q in omega (arith, test-ends s (p .0), leb-true 16 t (p .1), leb-true t 18 (p .2))
 
   test-rma : (isUnlocked s && eqb t 19) ≡ true → Ends s t
-  test-rma q =
-      let a = unlocked-ends s (and-left (isUnlocked s) _ q) in
-      let b = eqb-true t 19 (and-right (isUnlocked s) _ q) in
-      record { start = omega arith; above = omega arith; within = omega arith }
+  test-rma q = omega (arith, unlocked-ends s (and-left (isUnlocked s) _ q), eqb-true t 19 (and-right (isUnlocked s) _ q))
 
   rma : ((eqb s 16 || eqb s 17) && eqb t 19) ≡ true → Ends s t
   rma q =
-      let b = eqb-true t 19 (and-right (eqb s 16 || eqb s 17) _ q) in
-      let a : s < 20 =
-      by-cases (eqb s 16) (λ d. omega (arith, eqb-true s 16 d)) (λ d. omega (arith, eqb-true s 17 (rw d at (and-left (eqb s 16 || eqb s 17) _ q)))) in
-      record { start = omega arith; above = omega arith; within = omega arith }
+      let two = eqb s 16 || eqb s 17 in
+      let b = eqb-true t 19 (and-right two _ q) in
+      by-cases (eqb s 16) (λ d. omega (arith, eqb-true s 16 d)) (λ d. omega (arith, eqb-true s 17 (rw d at (and-left two _ q))))
 
   scrap : (ltb s 20 && eqb t 20) ≡ true → Ends s t
-  scrap q =
-      let a = ltb-true s 20 (and-left (ltb s 20) _ q) in
-      let b = eqb-true t 20 (and-right (ltb s 20) _ q) in
-      record { start = omega arith; above = omega arith; within = omega arith }
+  scrap q = omega (arith, ltb-true s 20 (and-left (ltb s 20) _ q), eqb-true t 20 (and-right (ltb s 20) _ q))
 
   none : {tok : Token} → Forbidden ≡ Allowed tok → Ends s t
   none e = absurd (let z : _≡_ {A = ℕ} 0 1 = cc in omega arith)

@@ -1,9 +1,11 @@
 -- Whatever holds of every act, with no case on commands. The idea: an act is a small tree, so each law is an induction on it.
-use mathlib.Core.Path.{_≡_, refl, _∙_}
+use mathlib.Core.Path.{_≡_, refl, ap, _∙_}
 use mathlib.Core.Bool.{Bool, true, false}
 use mathlib.Core.List.{List}
 use Prim.Native.Nat.{ℕ, _+_, _≤_, _<_}
+use lib.Dec.{eqb}
 use lib.ListN.{length, getD}
+use borrow.Author.Tests.{eqb-false}
 use Rattle.basics.specs.Choice.{if_then_else_}
 use Rattle.basics.proofs.Choice.{if-both}
 use Rattle.words.specs.declared.Programmed.{Programmed}
@@ -11,7 +13,8 @@ use Rattle.words.specs.declared.Programmed.the-variants as programmed
 use Rattle.words.specs.Programming.{programAnswer, programCells, Kept}
 use Rattle.words.proofs.Programming.{kept-refl, kept-trans, program-kept, program-length, program-elsewhere}
 use Rattle.model.specs.declared.Answer.{Answer}
-use Rattle.model.specs.declared.Answer.the-variants.{Cleared}
+use Rattle.model.specs.declared.Answer.the-variants.{Done, Cleared}
+use Rattle.model.specs.Answers.{codeOf}
 use Rattle.model.specs.Acts.{Turn, Act, say, program, compare, Performed, afterProgram, noting, perform}
 
 -- what holds of a programming that is done and of one that is refused
@@ -58,7 +61,8 @@ within-map f says = says
 within-map f (programs h next) = programs (λ j l u. f j (h j l u)) (within-map f next)
 within-map f (compares same other) = compares (within-map f same) (within-map f other)
 
-pub perform-frame : {P : ℕ → Type 0} {x : Act} → Within P x → (copy cells : List ℕ) (j : ℕ) → (P j → ⊥) → getD (perform x copy cells .cells) j 0 ≡ getD cells j 0
+pub perform-frame : {P : ℕ → Type 0} {x : Act} → Within P x → (copy cells : List ℕ) (j : ℕ) → (P j → ⊥)
+    → getD (perform x copy cells .cells) j 0 ≡ getD cells j 0
 unfolding perform noting
 perform-frame says copy cells j h = refl
 perform-frame (programs {at = at} {words = words} inside next) copy cells j h =
@@ -77,10 +81,18 @@ pub data Gives (T : Answer → Turn → Type 0) : Act → Type 0 where
 pub gives-if : {T : Answer → Turn → Type 0} {b : Bool} {x y : Act} → (b ≡ true → Gives T x) → (b ≡ false → Gives T y) → Gives T (if b then x else y)
 gives-if {T} {b} {x} {y} f g = if-both (Gives T) b x y f g
 
+pub gives-either : {T : Answer → Turn → Type 0} (b : Bool) {x y : Act} → Gives T x → Gives T y → Gives T (if b then x else y)
+gives-either b f g = gives-if (λ e. f) (λ e. g)
+
 pub perform-gives : {T : Answer → Turn → Type 0} {x : Act} → Gives T x → (copy cells : List ℕ) → T (perform x copy cells .answer) (perform x copy cells .turn)
 unfolding perform noting
 perform-gives (Gives.says h) copy cells = h
 perform-gives {T} (Gives.programs {at = at} {words = words} refused next) copy cells =
-    after-both (λ (r : Performed). T (r .answer) (r .turn)) (programAnswer cells at words) _ _ (λ e. perform-gives next copy (programCells cells at words)) (λ cell e. refused cell)
+    after-both (λ (r : Performed). T (r .answer) (r .turn)) (programAnswer cells at words) _ _
+    (λ e. perform-gives next copy (programCells cells at words)) (λ cell e. refused cell)
 perform-gives {T} (Gives.compares {test = test} same other) copy cells =
     if-both (λ (r : Performed). T (r .answer) (r .turn)) _ _ _ (λ e. perform-gives same copy cells) (λ e. perform-gives other copy cells)
+
+-- a refusal is not an answer of 0
+pub not-done : {answer : Answer} {value : ℕ} → eqb (codeOf answer) 0x00 ≡ false → answer ≡ Done value → ⊥
+not-done t e = eqb-false _ _ t (ap codeOf e)

@@ -7,5 +7,37 @@ use Rattle.model.proofs.Everything.{everything}
 
 pub cases : (prims : Primitives) (keys : ℕ → ℕ) → Hold prims keys table
 unfolding everything table
-cases prims keys =
-    ((refl, tt), ((refl, tt), ((refl, tt), ((refl, tt), ((refl, tt), ((refl, tt), ((refl, tt), ((refl, tt), ((refl, tt), ((refl, tt), ((refl, tt), ((refl, refl), ((refl, tt), ((refl, tt), tt))))))))))))))
+cases prims keys = (
+  (refl, tt),
+  (
+    (refl, tt),
+    (
+      (refl, tt),
+      (
+        (refl, tt),
+        (
+          (refl, tt),
+          (
+            (refl, tt),
+            (
+              (refl, tt),
+              (
+                (refl, tt),
+                (
+                  (refl, tt),
+                  (
+                    (refl, tt),
+                    (
+                      (refl, tt),
+                      ((refl, refl), ((refl, tt), ((refl, tt), tt))),
+                    ),
+                  ),
+                ),
+              ),
+            ),
+          ),
+        ),
+      ),
+    ),
+  ),
+)

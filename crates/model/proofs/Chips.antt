@@ -3,7 +3,7 @@
 use mathlib.Core.Path.{_≡_, refl, sym, ap, ap₂, subst, _∙_}
 use mathlib.Core.Bool.{Bool, true, false, _&&_}
 use mathlib.Core.List.{List, [], _∷_}
-use Prim.Native.Nat.{ℕ, suc, _+_, _*_, _-_, _/_, _≤_, _<_}
+use Prim.Native.Nat.{ℕ, suc, _+_, _*_, _/_, _≤_, _<_}
 use native.Mathlib.Omega.{arith}
 use lib.Dec.{eqb, ltb}
 use lib.ListN.{length, getD, set, length-set}
@@ -11,7 +11,7 @@ use lib.Seq.{sets, getD-set-same, getD-set-other, set-out}
 use borrow.Author.Tests.{leb-false, eqb-true, eqb-false, ltb-true, ltb-false, not-false}
 use Rattle.basics.specs.Choice.{if_then_else_}
 use Rattle.basics.specs.Range.{listed}
-use Rattle.basics.proofs.Choice.{by-cases, true-not-false, not-passed, if-true, if-false}
+use Rattle.basics.proofs.Choice.{by-cases, true-not-false, not-passed, if-true, if-false, if-same}
 use Rattle.basics.proofs.Range.{listed-at}
 use Rattle.words.specs.declared.Programmed.{Programmed}
 use Rattle.words.specs.declared.Programmed.the-variants as programmed
@@ -19,15 +19,13 @@ use Rattle.words.specs.Words.{numberOf}
 use Rattle.words.specs.Programming.{programAnswer, programCells}
 use Rattle.words.proofs.Parts.{part-same}
 use Rattle.words.proofs.Programming.{answer-same, by-answer, stored-done, stored-refused, program-length}
-use Rattle.partitions.specs.declared.Kind.{Kind}
 use Rattle.partitions.specs.declared.Kind.the-variants as kind
 use Rattle.partitions.specs.declared.Partition.{Partition}
 use Rattle.partitions.specs.Fitness.{fit}
-use Rattle.partitions.proofs.KindRights.{hardware-direct, scrambled-hardware, front-hardware, front-not-scrambled, lockable-not-hardware}
-use Rattle.partitions.proofs.Map.{inside, partition-fit, partition-word, life-cycle-partition}
+use Rattle.partitions.proofs.KindRights.{scrambled-direct, front-hardware, front-not-scrambled, lockable-not-hardware}
+use Rattle.partitions.proofs.Map.{inside, partition-fit, partition-word}
 use Rattle.partitions.proofs.Granules.{granule-within, word-inside, word-number, digest-word}
 use Rattle.partitions.specs.Map.{Map, rightsOf, numberAt, partition, partitionAt, limit, inDigest, firstWord, wordCount, numberOfKind}
-use Rattle.life_cycle.specs.Words.{decoded}
 use Rattle.model.specs.declared.Answer.{Answer}
 use Rattle.model.specs.declared.Answer.the-variants.{Done}
 use Rattle.model.specs.declared.Session.{Session}
@@ -36,13 +34,13 @@ use Rattle.model.specs.declared.Command.the-variants.{Read, Write, Front
 use Rattle.model.specs.Session.{isReady, sensedAt, sensedLocked}
 use Rattle.model.specs.Lent.{Machine, Primitives, digestStart, digestFinal}
 use Rattle.model.specs.Acts.{stay, turned, Act, say, Performed, afterProgram, noting, perform}
-use Rattle.model.specs.Commands.{granule, storedDigest, dataWords, computedDigest, unscrambled, counterAt, stateAt, writeAct, readAct, frontReadAct, digestAct, readLockAct, transitionAct, tokenAct, lockedTokenAct, entryAct, moveAct, commandAct, readyAct}
-use Rattle.model.specs.PowerUp.{digests, Waking, fails, wakes, waking, wakingOf, lifeCycleIn, copyWord, wokenCopy, wokenSession, wokenAnswer}
-use Rattle.model.specs.Step.{Step, performed, act, powerUp, obey, step, after, answers}
+use Rattle.model.specs.Commands.{granule, storedDigest, dataWords, computedDigest, unscrambled, counterAt, writeAct, readAct, frontReadAct, digestAct, readLockAct, transitionAct, tokenAct, lockedTokenAct, entryAct, moveAct, commandAct, readyAct}
+use Rattle.model.specs.PowerUp.{digests, Waking, fails, wakes, waking, wakingOf, copyWord, wokenCopy, wokenSession, wokenAnswer}
+use Rattle.model.specs.Step.{Step, performed, act, powerUp, step, after, answers, machineAfter}
 use Rattle.model.specs.Terms.{Right, Digested, Agree, Matched, Hidden, Alike}
 use Rattle.model.proofs.Acts.{Within, says, programs, compares, within-map}
-use Rattle.model.proofs.Frame.{Open, unlocked, lifeCycle, not-locked, life-words, act-within}
-use Rattle.model.proofs.Steps.{step-obeys, step-up, cells-length, up-right, act-right}
+use Rattle.model.proofs.Frame.{Open, unlocked, lifeCycle, not-locked, life-words, life-closed, life-same, act-within}
+use Rattle.model.proofs.Steps.{obey-both, step-obeys, step-up, cells-length, up-right, act-right}
 use Rattle.model.proofs.Locks.{Locked, up-locked, act-locked}
 
 -- ---- cells that are equal where P holds
@@ -101,18 +99,12 @@ perform-twin {P} (programs {at = at} {words = words} inside next) k k′ c d e h
     let q : programAnswer c at words ≡ programAnswer d at words = answer-same words c d at (λ j l u. h .at j (inside j l u)) in
     rw (← q)
     (after-twin (Twin P) (programAnswer c at words) _ _ _ _
-    (perform-twin next k k′ (programCells c at words) (programCells d at words) (rw (program-length c words at, program-length d words at) e) (program-alike words c d at e h q))
+    (perform-twin next k k′ (programCells c at words) (programCells d at words) (rw (program-length c words at, program-length d words at) e)
+    (program-alike words c d at e h q))
     (λ cell g. record { answer = refl; turn = refl; cells = h }))
 perform-twin {P} (compares {test = test} same other) k k′ c d e h = λ g.
     let r = if-twin (Twin P) _ _ _ _ (g .0) (perform-twin same k k′ c d e h) (perform-twin other k k′ c d e h) (g .1) in
     record { answer = r .answer; turn = r .turn; cells = r .cells }
-
-if-same {ℓ} : {A : Type ℓ} {b : Bool} {x y x′ y′ : A} → (b ≡ true → x ≡ x′) → (b ≡ false → y ≡ y′) → (if b then x else y) ≡ (if b then x′ else y′)
-if-same {b = b} {x = x} {y = y} {x′ = x′} {y′ = y′} f g =
-    by-cases b (λ t. if-true x y t ∙ f t ∙ sym (if-true x′ y′ t)) (λ t. if-false x y t ∙ g t ∙ sym (if-false x′ y′ t))
-
-scrambled-direct : (k : Kind) → rightsOf k .scrambled ≡ true → rightsOf k .direct ≡ true
-scrambled-direct k e = hardware-direct k (scrambled-hardware k e)
 
 -- ---- what shows, where partitions with H hide their data
 
@@ -153,18 +145,21 @@ module _ (prims : Primitives) (map : Map) (F : fit map ≡ true) (H : ℕ → Ty
         record { shows = λ v u. true-not-false (rw e (word-inside map F l lo hi .side ∙ i)) u }
 
     -- data of an unlocked partition shows
-    data-shown : (a j : ℕ) → a < limit map → isReady (s .phase) ≡ true → (rightsOf (partitionAt map a .kind) .scrambled && sensedLocked s (numberAt map a)) ≡ false
+    data-shown : (a j : ℕ) → a < limit map → isReady (s .phase) ≡ true
+        → (rightsOf (partitionAt map a .kind) .scrambled && sensedLocked s (numberAt map a)) ≡ false
         → firstWord (partitionAt map a) a ≤ j → j < firstWord (partitionAt map a) a + wordCount (partitionAt map a) a → Shown map H j
     unfolding partitionAt
     data-shown a j l r z lo hi =
-        open-shown (numberAt map a) j (λ v. shut (numberAt map a) v r (not-locked s (numberAt map a) (rw (secret (numberAt map a) v) at z))) (word-number map F l lo hi)
+        let n = numberAt map a in
+        open-shown n j (λ v. shut n v r (not-locked s n (rw (secret n v) at z))) (word-number map F l lo hi)
 
     front-same : (a : ℕ) → a < limit map → rightsOf (partitionAt map a .kind) .front ≡ true → granule (partitionAt map a) k a ≡ granule (partitionAt map a) k′ a
     unfolding granule partitionAt
     front-same a l f =
         ap numberOf (part-same k k′ _ _ (λ j lo hi. g .at j (record { low = omega (arith, granule-within map F l); front = rw (word-number map F l lo hi) f })))
 
-    computed-same : (a : ℕ) → a < limit map → (H (numberAt map a) → ⊥) → computedDigest prims map t (partitionAt map a) c ≡ computedDigest prims map t (partitionAt map a) d
+    computed-same : (a : ℕ) → a < limit map → (H (numberAt map a) → ⊥)
+        → computedDigest prims map t (partitionAt map a) c ≡ computedDigest prims map t (partitionAt map a) d
     unfolding computedDigest dataWords partitionAt
     computed-same a l n =
         let i = numberAt map a in
@@ -180,7 +175,8 @@ module _ (prims : Primitives) (map : Map) (F : fit map ≡ true) (H : ℕ → Ty
     command-same (Read a) r = if-same (λ e. refl) λ l. if-same (λ e. refl) λ e. if-same
         (λ i. ap (λ (x : ℕ). say (Done x) stay) (granule-same a (leb-false _ _ l) (λ j lo hi. digest-shown a j (leb-false _ _ l) i lo hi)))
         λ i. if-same (λ e. refl) λ e. if-same (λ e. refl)
-        λ z. ap (λ (x : ℕ). say (Done (unscrambled prims map t (partitionAt map a) x)) stay) (granule-same a (leb-false _ _ l) (λ j lo hi. data-shown a j (leb-false _ _ l) r z lo hi))
+        λ z. ap (λ (x : ℕ). say (Done (unscrambled prims map t (partitionAt map a) x)) stay)
+        (granule-same a (leb-false _ _ l) (λ j lo hi. data-shown a j (leb-false _ _ l) r z lo hi))
     command-same (FrontRead a) r = if-same (λ t. refl) λ l. if-same (λ t. refl) λ f. if-same (λ t. refl) λ i.
         ap (λ (x : ℕ). say (Done x) stay) (front-same a (leb-false _ _ l) (not-false _ f))
     command-same (Digest a) r = if-same (λ t. refl) λ l. if-same (λ t. refl) λ f. if-same (λ t. refl) λ i. if-same (λ t. refl) λ z.
@@ -201,12 +197,14 @@ front-shown map H secret j f = record { shows = λ v u. true-not-false (secret _
 
 module _ (prims : Primitives) (map : Map) where
   -- a word that front reads see is latched as it stands
-  pub front-latched : (constants cells : List ℕ) (j : ℕ) → rightsOf (partitionAt map (2 * j) .kind) .front ≡ true → copyWord prims map constants cells j ≡ getD cells j 0
+  pub front-latched : (constants cells : List ℕ) (j : ℕ) → rightsOf (partitionAt map (2 * j) .kind) .front ≡ true
+      → copyWord prims map constants cells j ≡ getD cells j 0
   unfolding copyWord
   front-latched constants cells j f =
       if-false _ _ (not-passed _ (λ t. true-not-false (front-hardware _ f) (lockable-not-hardware _ t))) ∙ rw (front-not-scrambled _ f) (if-false _ _ refl)
 
-  digests-same : (f g : Partition → ℕ) (ps : Map) → ((n : ℕ) → n < length ps → rightsOf (partition ps n .kind) .direct ≡ true → f (partition ps n) ≡ g (partition ps n)) → digests f ps ≡ digests g ps
+  digests-same : (f g : Partition → ℕ) (ps : Map)
+      → ((n : ℕ) → n < length ps → rightsOf (partition ps n .kind) .direct ≡ true → f (partition ps n) ≡ g (partition ps n)) → digests f ps ≡ digests g ps
   unfolding digests partition
   digests-same f g [] h = refl
   digests-same f g (p ∷ ps) h =
@@ -240,23 +238,17 @@ module _ (prims : Primitives) (map : Map) (F : fit map ≡ true) (H : ℕ → Ty
       let q = digest-word map F l e lo hi in
       record { shows = λ v u. true-not-false (rw (q .0) (q .1)) u }
 
+  closed-shown : (j : ℕ) → numberAt map (2 * j) ≡ numberOfKind map kind.LifeCycle → Shown map H j
+  unfolding partitionAt
+  closed-shown j e = record { shows = λ v u. true-not-false (scrambled-direct _ (secret _ v)) (life-closed prims map F j e) }
+
   stored-alike : (c d : List ℕ) → Same (Shown map H) c d → (n : ℕ) → n < length map → rightsOf (partition map n .kind) .direct ≡ true
       → storedDigest (partition map n) c ≡ storedDigest (partition map n) d
   unfolding storedDigest
   stored-alike c d h n l e = ap numberOf (part-same c d _ 4 (λ j lo hi. h .at j (digest-shows n l e j lo hi)))
 
-  life-shut : (j : ℕ) → numberAt map (2 * j) ≡ numberOfKind map kind.LifeCycle → rightsOf (partition map (numberAt map (2 * j)) .kind) .direct ≡ false
-  life-shut j e = rw e (life-cycle-partition map F .closed)
-
   life-shown : (j : ℕ) → counterAt prims map ≤ j → j < counterAt prims map + 44 → Shown map H j
-  life-shown j lo hi = record { shows = λ v u. true-not-false (scrambled-direct _ (secret _ v)) (life-shut j (life-words prims map F j lo hi)) }
-
-  life-same : (c d k k′ t : List ℕ) → Same (Shown map H) c d
-      → lifeCycleIn prims map (record { cells = c; copy = k; constants = t }) ≡ lifeCycleIn prims map (record { cells = d; copy = k′; constants = t })
-  unfolding lifeCycleIn stateAt
-  life-same c d k k′ t h =
-      ap₂ (λ (x y : List ℕ). decoded t x y) (part-same c d _ 24 (λ j lo hi. h .at j (life-shown j lo (omega arith))))
-      (part-same c d _ 20 (λ j lo hi. h .at j (life-shown j (omega arith) (omega arith))))
+  life-shown j lo hi = closed-shown j (life-words prims map F j lo hi)
 
   copies-alike : (t c d : List ℕ) → Same (Shown map H) c d
       → Same (FrontWord map H) (listed (copyWord prims map t c) 0 (limit map / 2)) (listed (copyWord prims map t d) 0 (limit map / 2))
@@ -277,7 +269,8 @@ module _ (prims : Primitives) (map : Map) (F : fit map ≡ true) (H : ℕ → Ty
       → wokenSession prims map w (record { cells = c; copy = k; constants = t }) ≡ wokenSession prims map w (record { cells = d; copy = k′; constants = t })
   unfolding wokenSession
   woken-records (fails reason answer) c d k k′ t h = refl
-  woken-records (wakes state count) c d k k′ t h = rw (digests-same prims map (λ p. storedDigest p c) (λ p. storedDigest p d) map (λ n l e. stored-alike c d h n l e))
+  woken-records (wakes state count) c d k k′ t h =
+      rw (digests-same prims map (λ p. storedDigest p c) (λ p. storedDigest p d) map (λ n l e. stored-alike c d h n l e))
 
   up-made : (c d k k′ t : List ℕ) (s s′ : Session) → Right map (made c k t s) → Right map (made d k′ t s′) → Same (Shown map H) c d
       → ((p : ℕ) → H p → storedDigest (partition map p) c ≡ 0 → ⊥)
@@ -285,7 +278,7 @@ module _ (prims : Primitives) (map : Map) (F : fit map ≡ true) (H : ℕ → Ty
       → SamePair (powerUp prims map (made c k t s)) (powerUp prims map (made d k′ t s′))
   unfolding powerUp waking
   up-made c d k k′ t s s′ r r′ h z g =
-      let e = ap₂ wakingOf (sym (g .0)) (sym (life-same c d k k′ t h)) in
+      let e = ap₂ wakingOf (sym (g .0)) (sym (life-same prims map F c d k k′ t (λ j lo hi. h .at j (life-shown j lo hi)))) in
       record {
         answer = ap (wokenAnswer prims map) (sym e);
         pair = record {
@@ -319,17 +312,19 @@ module _ (prims : Primitives) (map : Map) (F : fit map ≡ true) (H : ℕ → Ty
   decided x m n h =
       subst (λ (t : List ℕ). readyAct prims map (made (n .lent .cells) (n .lent .copy) t (n .session)) x ≡ readyAct prims map m x) (h .constants)
       (subst (λ (s : Session). readyAct prims map (made (n .lent .cells) (n .lent .copy) (m .lent .constants) s) x ≡ readyAct prims map m x) (h .records)
-      (sym (decided-same prims map F H known secret (m .session) (λ p v. h .locks p v .felt) (m .lent .cells) (n .lent .cells) (m .lent .copy) (n .lent .copy) (m .lent .constants) (h .fuses) (h .views) x)))
+      (sym (decided-same prims map F H known secret (m .session) (λ p v. h .locks p v .felt) (m .lent .cells) (n .lent .cells) (m .lent .copy) (n .lent .copy)
+      (m .lent .constants) (h .fuses) (h .views) x)))
 
   -- no hidden word is programmed
   shown-within : (x : Command) (m n : Machine) → Pair m n → Within (Shown map H) (readyAct prims map m x)
   shown-within x m n h = within-map go (act-within prims map F m x)
     where
       go : (j : ℕ) → Open map x (m .session) j → Shown map H j
-      go j (unlocked r d z) = record { shows = λ v u. h .locks _ v .felt r z }
-      go j (lifeCycle r t e) = record { shows = λ v u. true-not-false (scrambled-direct _ (secret _ v)) (life-shut j e) }
+      go j (unlocked r d z aim) = record { shows = λ v u. h .locks _ v .felt r z }
+      go j (lifeCycle r t e) = closed-shown j e
 
-  act-pair : (x : Command) (m n : Machine) → Pair m n → Agree (act prims map x m .compared) (act prims map x n .compared) → SamePair (act prims map x m) (act prims map x n)
+  act-pair : (x : Command) (m n : Machine) → Pair m n → Agree (act prims map x m .compared) (act prims map x n .compared)
+      → SamePair (act prims map x m) (act prims map x n)
   unfolding act performed
   act-pair x m n h g =
       let e = decided x m n h in
@@ -348,20 +343,10 @@ module _ (prims : Primitives) (map : Map) (F : fit map ≡ true) (H : ℕ → Ty
         };
       })
 
-  obey-both : (Q : Step → Step → Type 0) (x : Command) (m n : Machine) → Q (powerUp prims map m) (powerUp prims map n) → Q (act prims map x m) (act prims map x n) → Q (obey prims map x m) (obey prims map x n)
-  unfolding obey
-  obey-both Q (Read a) m n h f = f
-  obey-both Q (Write a value) m n h f = f
-  obey-both Q (FrontRead a) m n h f = f
-  obey-both Q (Digest a) m n h f = f
-  obey-both Q (ReadLock number) m n h f = f
-  obey-both Q (Transition target high low) m n h f = f
-  obey-both Q PowerUp m n h f = h
-
   pub step-pair : (x : Command) (m n : Machine) → Pair m n → Agree (step prims map x m .compared) (step prims map x n .compared)
       → Agree (step prims map x m .verdicts) (step prims map x n .verdicts) → SamePair (step prims map x m) (step prims map x n)
   step-pair x m n h = rw (step-obeys prims map x m (h .right), step-obeys prims map x n (h .rightToo))
-      (obey-both (λ s u. Agree (s .compared) (u .compared) → Agree (s .verdicts) (u .verdicts) → SamePair s u) x m n
+      (obey-both prims map (λ s u. Agree (s .compared) (u .compared) → Agree (s .verdicts) (u .verdicts) → SamePair s u) x m n
       (λ a v. up-pair m n (h .right) (h .rightToo) (h .fuses) (h .constants) (λ p w. h .locks p w .burnt) v) (λ a v. act-pair x m n h a))
 
   pub after-pair : (l : List Command) (m n : Machine) → Pair m n → Matched prims map l m n
@@ -370,7 +355,7 @@ module _ (prims : Primitives) (map : Map) (F : fit map ≡ true) (H : ℕ → Ty
   after-pair [] m n h g = (refl, h)
   after-pair (x ∷ l) m n h g =
       let o = step-pair x m n h (g .0) (g .1) in
-      let r = after-pair l (step prims map x m .result .machine) (step prims map x n .result .machine) (o .pair) (g .2) in
+      let r = after-pair l (machineAfter prims map x m) (machineAfter prims map x n) (o .pair) (g .2) in
       (ap₂ (λ (a : Answer) (rest : List Answer). a ∷ rest) (o .answer) (r .0), r .1)
 
 -- ---- the theorem
@@ -384,6 +369,12 @@ pub two-chips : (prims : Primitives) (map : Map) → fit map ≡ true → (m n :
 unfolding answers after Matched
 two-chips prims map F m n r r′ e h l g =
     let H = Hidden map (m .lent .cells) (n .lent .cells) in
-    let o = first-pair prims map F H (λ p v. v .known) (λ p v. v .secret) m n r r′ (record { at = λ j q. h .at j (λ w. q .shows (w .hidden) (w .isData)) }) e (λ p v. v .nonzero) (g .1) in
-    let t = after-pair prims map F H (λ p v. v .known) (λ p v. v .secret) l (step prims map PowerUp m .result .machine) (step prims map PowerUp n .result .machine) (o .pair) (g .2) in
-    (ap₂ (λ (a : Answer) (rest : List Answer). a ∷ rest) (o .answer) (t .0), t .1 .records, record { at = λ j q. t .1 .fuses .at j (record { shows = λ v u. q (record { hidden = v; isData = u }) }) })
+    let same : Same (Shown map H) (m .lent .cells) (n .lent .cells) = record { at = λ j q. h .at j (λ w. q .shows (w .hidden) (w .isData)) } in
+    let o = first-pair prims map F H (λ p v. v .known) (λ p v. v .secret) m n r r′ same e (λ p v. v .nonzero) (g .1) in
+    let m₁ = machineAfter prims map PowerUp m in
+    let n₁ = machineAfter prims map PowerUp n in
+    let t = after-pair prims map F H (λ p v. v .known) (λ p v. v .secret) l m₁ n₁ (o .pair) (g .2) in (
+      ap₂ (λ (a : Answer) (rest : List Answer). a ∷ rest) (o .answer) (t .0),
+      t .1 .records,
+      record { at = λ j q. t .1 .fuses .at j (record { shows = λ v u. q (record { hidden = v; isData = u }) }) },
+    )

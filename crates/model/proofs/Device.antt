@@ -1,7 +1,7 @@
--- The device code is final, and only a power-up senses. The idea: every power-up that succeeds latches the words of a locked partition as they
+-- The device code is final. The idea: every power-up that succeeds latches the words of a locked partition as they
 -- were when it was found locked, and no other command writes the copy.
 use mathlib.Core.Path.{_≡_, refl, sym, ap, _∙_}
-use mathlib.Core.Bool.{true, not}
+use mathlib.Core.Bool.{true}
 use mathlib.Core.List.{List, [], _∷_, _++_}
 use Prim.Native.Nat.{ℕ, _+_, _*_, _/_, _≤_, _<_}
 use native.Mathlib.Omega.{arith}
@@ -16,20 +16,20 @@ use Rattle.partitions.specs.Map.{Map, rightsOf, numberAt, partition, partitionA
 use Rattle.partitions.specs.Fitness.{fit}
 use Rattle.partitions.proofs.Map.{only, partition-at, partition-fit, end-within}
 use Rattle.partitions.proofs.Granules.{word-inside}
-use Rattle.model.specs.declared.Answer.the-variants.{Done, Denied, NotReady}
+use Rattle.model.specs.declared.Answer.the-variants.{Done}
 use Rattle.model.specs.declared.Command.{Command}
-use Rattle.model.specs.declared.Command.the-variants.{Read, Write, FrontRead, Digest, ReadLock, Transition, PowerUp}
+use Rattle.model.specs.declared.Command.the-variants.{FrontRead, PowerUp}
+use Rattle.model.specs.Answers.{valueOf}
 use Rattle.model.specs.Session.{isReady}
-use Rattle.life_cycle.specs.Constants.{validConstants}
-use Rattle.model.specs.Lent.{Lent, Machine, Primitives, rightLengths}
+use Rattle.model.specs.Lent.{Lent, Machine, Primitives}
 use Rattle.model.specs.Acts.{Act, perform}
 use Rattle.model.specs.Commands.{granule, storedDigest, frontReadAct, commandAct, readyAct}
 use Rattle.model.specs.PowerUp.{Waking, fails, wakes, waking, copyWord, wokenCopy, wokenSession}
-use Rattle.model.specs.Step.{Step, unchanged, performed, act, powerUp, obey, step, after}
+use Rattle.model.specs.Step.{Step, unchanged, performed, act, powerUp, obey, after, machineAfter, answerTo}
 use Rattle.model.specs.Terms.{Right, Digested, SamePartition}
-use Rattle.model.specs.Beyond.{quiet, Quiet}
-use Rattle.model.proofs.Steps.{after-append, step-all, step-obeys, step-up, after-right}
-use Rattle.model.proofs.Locks.{same-refl, same-trans, turned-ready, turned-sensed, Locked, up-locked, step-locked}
+use Rattle.model.proofs.Acts.{not-done}
+use Rattle.model.proofs.Steps.{outcome, after-append, step-all, step-obeys, step-up, after-right, acted, poweredUp}
+use Rattle.model.proofs.Locks.{same-refl, same-trans, turned-ready, Locked, up-locked, step-locked}
 use Rattle.model.proofs.Chips.{front-latched}
 
 -- ---- what a front read that answers 0 shows
@@ -40,56 +40,55 @@ module _ (prims : Primitives) (map : Map) where
     below : a < limit map
     shown : value ≡ granule (partitionAt map a) (m .lent .copy) a
 
-  front-seen : (m : Machine) (a value : ℕ) → perform (readyAct prims map m (FrontRead a)) (m .lent .copy) (m .lent .cells) .answer ≡ Done value → Seen m a value
+  front-seen : (m : Machine) (a value : ℕ) → outcome prims map (FrontRead a) m .answer ≡ Done value → Seen m a value
   unfolding readyAct commandAct frontReadAct perform
   front-seen m a value =
-      if-both Q _ _ _ (λ t e. unready e) λ r. if-both Q _ _ _ (λ t e. denied e) λ l. if-both Q _ _ _ (λ t e. denied e) λ t. if-both Q _ _ _ (λ t e. denied e)
-      λ t e. record { awake = not-false _ r; below = leb-false _ _ l; shown = value-of e }
+      if-both Q _ _ _ (λ t e. absurd (not-done refl e)) λ r. if-both Q _ _ _ (λ t e. absurd (not-done refl e)) λ l.
+      if-both Q _ _ _ (λ t e. absurd (not-done refl e)) λ t. if-both Q _ _ _ (λ t e. absurd (not-done refl e)) λ t e.
+      record { awake = not-false _ r; below = leb-false _ _ l; shown = sym (ap valueOf e) }
     where
       Q : Act → Type 0
       Q x = perform x (m .lent .copy) (m .lent .cells) .answer ≡ Done value → Seen m a value
 
-      unready : NotReady ≡ Done value → Seen m a value
-      unready e = absurd (let z : _≡_ {A = ℕ} 0 1 = cc in omega arith)
-
-      denied : Denied ≡ Done value → Seen m a value
-      denied e = absurd (let z : _≡_ {A = ℕ} 0 1 = cc in omega arith)
-
-      value-of : {v : ℕ} → Done v ≡ Done value → value ≡ v
-      value-of e = cc
-
 -- ---- what the copy holds of a partition that was found locked over the cells c₁
 
-module _ (prims : Primitives) (map : Map) (F : fit map ≡ true) (n : ℕ) (D : Digested map n) (front : rightsOf (partition map n .kind) .front ≡ true) (c₁ : List ℕ) where
+module _ (prims : Primitives) (map : Map) (F : fit map ≡ true) (n : ℕ) (D : Digested map n)
+    (front : rightsOf (partition map n .kind) .front ≡ true) (c₁ : List ℕ) where
   record Latched (m : Machine) : Type 0 where
     locked : Locked prims map F n D m
     same : SamePartition map n c₁ (m .lent .cells)
     held : isReady (m .session .phase) ≡ true → SamePartition map n c₁ (m .lent .copy)
 
-  woken-held : (w : Waking) (l : Lent) → SamePartition map n c₁ (l .cells) → isReady (wokenSession prims map w l .phase) ≡ true → SamePartition map n c₁ (wokenCopy prims map w l)
+  woken-held : (w : Waking) (l : Lent) → SamePartition map n c₁ (l .cells) → isReady (wokenSession prims map w l .phase) ≡ true
+      → SamePartition map n c₁ (wokenCopy prims map w l)
   unfolding wokenSession wokenCopy isReady
   woken-held (fails reason answer) l h e = absurd (true-not-false e refl)
   woken-held (wakes state count) l h e = record { at = word }
     where
-      word : (j : ℕ) → partition map n .start ≤ 2 * j → 2 * j < partition map n .end → getD c₁ j 0 ≡ getD (listed (copyWord prims map (l .constants) (l .cells)) 0 (limit map / 2)) j 0
+      word : (j : ℕ) → partition map n .start ≤ 2 * j → 2 * j < partition map n .end
+          → getD c₁ j 0 ≡ getD (listed (copyWord prims map (l .constants) (l .cells)) 0 (limit map / 2)) j 0
       word j from upto =
           let f = partition-fit map F (D .known) in
           let low : j < limit map / 2 = omega (arith, end-within map F (D .known), f .end-aligned) in
           let p = partition-at map (2 * j) (only map F (D .known) from upto) in
-          h .at j from upto ∙ sym (listed-at (copyWord prims map (l .constants) (l .cells)) 0 (limit map / 2) j low ∙ front-latched prims map (l .constants) (l .cells) j (rw p front))
+          h .at j from upto
+          ∙ sym (listed-at (copyWord prims map (l .constants) (l .cells)) 0 (limit map / 2) j low ∙ front-latched prims map (l .constants) (l .cells) j (rw p front))
 
-  up-latched : (m : Machine) → (storedDigest (partition map n) (m .lent .cells) ≡ 0 → ⊥) → SamePartition map n c₁ (m .lent .cells) → Latched (powerUp prims map m .result .machine)
+  up-latched : (m : Machine) → (storedDigest (partition map n) (m .lent .cells) ≡ 0 → ⊥) → SamePartition map n c₁ (m .lent .cells)
+      → Latched (poweredUp prims map m)
   up-latched m z h = record {
     locked = up-locked prims map F n D m z;
     same = unfold powerUp in h;
     held = unfold powerUp in (woken-held (waking prims map (m .lent)) (m .lent) h);
   }
 
-  act-held : (x : Command) (m : Machine) → Latched m → isReady (act prims map x m .result .machine .session .phase) ≡ true → SamePartition map n c₁ (act prims map x m .result .machine .lent .copy)
+  act-held : (x : Command) (m : Machine) → Latched m → isReady (acted prims map x m .session .phase) ≡ true
+      → SamePartition map n c₁ (acted prims map x m .lent .copy)
   unfolding act performed
   act-held x m h e = h .held (turned-ready _ (m .session) e)
 
-  step-held : (x : Command) (m : Machine) → Latched m → isReady (step prims map x m .result .machine .session .phase) ≡ true → SamePartition map n c₁ (step prims map x m .result .machine .lent .copy)
+  step-held : (x : Command) (m : Machine) → Latched m → isReady (machineAfter prims map x m .session .phase) ≡ true
+      → SamePartition map n c₁ (machineAfter prims map x m .lent .copy)
   unfolding unchanged
   step-held x m h =
       step-all prims map (λ (s : Step). isReady (s .result .machine .session .phase) ≡ true → SamePartition map n c₁ (s .result .machine .lent .copy)) x m
@@ -100,27 +99,31 @@ module _ (prims : Primitives) (map : Map) (F : fit map ≡ true) (n : ℕ) (D : 
   after-latched [] m h = h
   after-latched (x ∷ l) m h =
       let k = step-locked prims map F n D x m (h .locked) in
-      after-latched l (step prims map x m .result .machine) (record { locked = k .0; same = same-trans (h .same) (k .1); held = step-held x m h })
+      after-latched l (machineAfter prims map x m) (record { locked = k .0; same = same-trans (h .same) (k .1); held = step-held x m h })
 
   -- a front read that answers 0 answers the words of c₁
   seen-same : (m : Machine) → Latched m → (a value : ℕ) → numberAt map a ≡ n → Seen prims map m a value → value ≡ granule (partition map n) c₁ a
   unfolding granule
   seen-same m h a value e s =
       let p = partition-at map a e in
-      s .shown ∙ ap numberOf (part-same (m .lent .copy) c₁ _ _ (λ j from upto. sym (h .held (s .awake) .at j (inside j from upto .0) (inside j from upto .1)))) ∙ rw p
+      let same = h .held (s .awake) in
+      s .shown ∙ ap numberOf (part-same (m .lent .copy) c₁ _ _ (λ j from upto. sym (same .at j (inside j from upto .0) (inside j from upto .1)))) ∙ rw p
     where
-      inside : (j : ℕ) → firstWord (partitionAt map a) a ≤ j → j < firstWord (partitionAt map a) a + wordCount (partitionAt map a) a → (partition map n .start ≤ 2 * j) × (2 * j < partition map n .end)
+      inside : (j : ℕ) → firstWord (partitionAt map a) a ≤ j → j < firstWord (partitionAt map a) a + wordCount (partitionAt map a) a
+          → (partition map n .start ≤ 2 * j) × (2 * j < partition map n .end)
       inside j from upto =
           let w = word-inside map F (s .below) from upto in
           rw (← partition-at map a e) (w .from, w .below)
 
-  front-read-same : (m : Machine) → Right map m → Latched m → (a value : ℕ) → numberAt map a ≡ n → step prims map (FrontRead a) m .result .answer ≡ Done value → value ≡ granule (partition map n) c₁ a
+  front-read-same : (m : Machine) → Right map m → Latched m → (a value : ℕ) → numberAt map a ≡ n → answerTo prims map (FrontRead a) m ≡ Done value
+      → value ≡ granule (partition map n) c₁ a
   unfolding obey act performed
-  front-read-same m r h a value e = rw (step-obeys prims map (FrontRead a) m r) (λ q. seen-same m h a value e (front-seen prims map m a value q))
+  front-read-same m r h a value e = rw (step-obeys prims map (FrontRead a) m r, answerTo) (λ q. seen-same m h a value e (front-seen prims map m a value q))
 
-pub device-final : (prims : Primitives) (map : Map) → fit map ≡ true → (m : Machine) → Right map m → (n : ℕ) → Digested map n → rightsOf (partition map n .kind) .front ≡ true
+pub device-final : (prims : Primitives) (map : Map) → fit map ≡ true → (m : Machine) → Right map m → (n : ℕ) → Digested map n
+    → rightsOf (partition map n .kind) .front ≡ true
     → (l₁ l₂ : List Command) → (storedDigest (partition map n) (after prims map l₁ m .lent .cells) ≡ 0 → ⊥)
-    → (a value : ℕ) → numberAt map a ≡ n → step prims map (FrontRead a) (after prims map (l₁ ++ PowerUp ∷ l₂) m) .result .answer ≡ Done value
+    → (a value : ℕ) → numberAt map a ≡ n → answerTo prims map (FrontRead a) (after prims map (l₁ ++ PowerUp ∷ l₂) m) ≡ Done value
     → value ≡ granule (partition map n) (after prims map l₁ m .lent .cells) a
 device-final prims map F m r n D front l₁ l₂ z a value e =
     front-read-same prims map F n D front c₁ (after prims map (l₁ ++ PowerUp ∷ l₂) m) (after-right prims map (l₁ ++ PowerUp ∷ l₂) m r) latched a value e
@@ -131,42 +134,8 @@ device-final prims map F m r n D front l₁ l₂ z a value e =
     c₁ : List ℕ
     c₁ = m₁ .lent .cells
 
-    up : Latched prims map F n D front c₁ (step prims map PowerUp m₁ .result .machine)
-    up = rw (step-up prims map m₁ (after-right prims map l₁ m r)) (up-latched prims map F n D front c₁ m₁ z same-refl)
+    up : Latched prims map F n D front c₁ (machineAfter prims map PowerUp m₁)
+    up = rw (step-up prims map m₁ (after-right prims map l₁ m r), machineAfter) (up-latched prims map F n D front c₁ m₁ z same-refl)
 
     latched : Latched prims map F n D front c₁ (after prims map (l₁ ++ PowerUp ∷ l₂) m)
-    latched = rw after-append (unfold after in (after-latched prims map F n D front c₁ l₂ (step prims map PowerUp m₁ .result .machine) up))
-
--- ---- a list without power-up and transition
-
-module _ (prims : Primitives) (map : Map) where
-  -- the copy and the sensed digests are as they were
-  abbrev Unsensed : Machine → Machine → Type 0
-  Unsensed m m′ = (m′ .lent .copy ≡ m .lent .copy) × (m′ .session .sensed ≡ m .session .sensed)
-
-  quiet-obeys : (x : Command) (m : Machine) → quiet x → obey prims map x m ≡ act prims map x m
-  unfolding obey
-  quiet-obeys (Read a) m q = refl
-  quiet-obeys (Write a value) m q = refl
-  quiet-obeys (FrontRead a) m q = refl
-  quiet-obeys (Digest a) m q = refl
-  quiet-obeys (ReadLock number) m q = refl
-  quiet-obeys (Transition target high low) m q = absurd q
-  quiet-obeys PowerUp m q = absurd q
-
-  step-unsensed : (x : Command) (m : Machine) → quiet x → Unsensed m (step prims map x m .result .machine)
-  unfolding step unchanged act performed
-  step-unsensed x m q =
-      if-both Q (not (rightLengths map (m .lent))) _ _ (λ e. (refl, refl))
-      (λ e. if-both Q (not (validConstants (m .lent .constants))) _ _ (λ e. (refl, refl)) (λ e. rw (quiet-obeys x m q) (refl, turned-sensed _ (m .session))))
-    where
-      Q : Step → Type 0
-      Q s = Unsensed m (s .result .machine)
-
-  pub after-unsensed : (m : Machine) (l : List Command) → Quiet l → Unsensed m (after prims map l m)
-  unfolding after
-  after-unsensed m [] q = (refl, refl)
-  after-unsensed m (x ∷ l) q =
-      let s = step-unsensed x m (q .0) in
-      let t = after-unsensed (step prims map x m .result .machine) l (q .1) in
-      (t .0 ∙ s .0, t .1 ∙ s .1)
+    latched = rw after-append (unfold after in (after-latched prims map F n D front c₁ l₂ (machineAfter prims map PowerUp m₁) up))

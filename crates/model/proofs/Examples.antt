@@ -12,7 +12,7 @@ use borrow.Author.Tests.{eqb-true, eqb-false, ltb-true, ltb-false}
 use Rattle.basics.proofs.Choice.{by-cases}
 use Rattle.basics.proofs.Range.{all-at}
 use Rattle.basics.proofs.Bits.{xor-xor}
-use Rattle.partitions.specs.Map.{partition}
+use Rattle.partitions.specs.Map.{partition, partitionAt, firstWord}
 use Rattle.partitions.specs.Map1.{map1}
 use Rattle.partitions.proofs.Map1.{map1-fit}
 use Rattle.model.specs.declared.Answer.the-variants.{Done, Denied, DigestFailed, NotReady, LifeCycleFailed, TokenDiffers}
@@ -22,12 +22,13 @@ use Rattle.model.specs.Lent.{Machine, Primitives}
 use Rattle.life_cycle.specs.declared.LifeCycle.the-variants.{Valid}
 use Rattle.model.specs.Commands.{storedDigest}
 use Rattle.model.specs.PowerUp.{lifeCycleIn}
-use Rattle.model.specs.Step.{step, after, answers}
+use Rattle.model.specs.Step.{after, answers, machineAfter, answerTo}
 use Rattle.model.specs.Cases.{chip, blank}
-use Rattle.model.specs.Terms.{Right, Cipher, Digested, Lasts, Allowed, Matched, HiddenWord, Alike}
+use Rattle.model.specs.Terms.{Right, Cipher, Digested, Lasts, Spared, usedValue, Allowed, Matched, HiddenWord, Alike}
 use Rattle.model.specs.Demand3.{Demand3, Ready}
+use Rattle.model.specs.Beyond.{Beyond}
 use Rattle.model.proofs.Everything.{everything}
-use Rattle.model.proofs.Theorems.{demand3}
+use Rattle.model.proofs.Theorems.{demand3, beyond}
 
 abbrev toy : Primitives
 toy = record { encrypt = λ key block. bitXor block 1; decrypt = λ key block. bitXor block 1; digest = λ start final words. 1 }
@@ -41,6 +42,9 @@ off cells = chip toy (λ i. 0) cells
 
 abbrev toy-demand3 : Demand3 toy map1
 toy-demand3 = demand3 toy toy-cipher map1 map1-fit
+
+abbrev toy-beyond : Beyond toy map1
+toy-beyond = beyond toy toy-cipher map1 map1-fit
 
 constants-small : (i : ℕ) → getD (off blank .lent .constants) i 0 < 65536
 unfolding everything
@@ -57,13 +61,37 @@ woken : Ready toy map1 (off blank) [] []
 unfolding everything Lasts
 woken = record { woke = refl; lasts = tt }
 
-allowed : Allowed toy map1 (off blank .lent .constants) blank (step toy map1 PowerUp (off blank) .result .machine .lent .cells) 0x003 0x55
+allowed : Allowed toy map1 (off blank .lent .constants) blank (machineAfter toy map1 PowerUp (off blank) .lent .cells) 0x003 0x55
 unfolding everything
 allowed = record { below = lit< tt; direct = refl; notDigest = refl; unlocked = refl; keeps = refl }
 
-reads-back : step toy map1 (Read 0x000) (step toy map1 (Write 0x003 0x55) (step toy map1 PowerUp (off blank) .result .machine) .result .machine) .result .answer ≡ Done 0x55
-unfolding everything
+wrote : Machine
+wrote = machineAfter toy map1 (Write 0x003 0x55) (machineAfter toy map1 PowerUp (off blank))
+
+reads-back : answerTo toy map1 (Read 0x000) wrote ≡ Done 0x55
+unfolding everything wrote
 reads-back = refl
+
+-- ---- it lasts: a write that clears a bit is refused, a transition and a power-up follow, and 0x001 still reads the same
+
+passing : List Command
+passing = Write 0x002 0xAA ∷ Transition 1 0 7 ∷ PowerUp ∷ []
+
+passed : Spared toy map1 0x003 passing wrote
+unfolding everything Spared passing wrote
+passed = (λ same done. omega arith, (tt, (tt, tt)))
+
+reads-on : answerTo toy map1 (Read 0x001) (after toy map1 passing wrote) ≡ Done 0x55
+unfolding everything passing wrote
+reads-on = refl
+
+one-granule : firstWord (partitionAt map1 0x001) 0x001 ≡ firstWord (partitionAt map1 0x003) 0x003
+unfolding everything
+one-granule = refl
+
+stored-on : 0x55 ≡ usedValue map1 0x003 0x55
+unfolding wrote after
+stored-on = toy-beyond .lasting (off blank) (right blank refl) [] [] woken 0x003 0x55 (lit< tt) allowed passing passed 0x001 0x55 one-granule reads-on
 
 -- ---- a lock: with a digest of 1 written to CREATOR_SW_CFG, the next power-up finds it locked
 
@@ -78,7 +106,7 @@ found-locked : storedDigest (partition map1 0) (after toy map1 locking (off blan
 unfolding everything locking
 found-locked = refl
 
-refused-since : step toy map1 (Write 0x000 0xFF) (after toy map1 (locking ++ PowerUp ∷ []) (off blank)) .result .answer ≡ Denied
+refused-since : answerTo toy map1 (Write 0x000 0xFF) (after toy map1 (locking ++ PowerUp ∷ []) (off blank)) ≡ Denied
 unfolding everything locking
 refused-since = refl
 
@@ -105,7 +133,9 @@ alike : Alike map1 one other one other
 alike = record { at = word }
   where
     word : (j : ℕ) → (HiddenWord map1 one other j → ⊥) → getD one j 0 ≡ getD other j 0
-    word j h = by-cases (eqb j 296) (λ t. absurd (h (subst (HiddenWord map1 one other) (sym (eqb-true j 296 t)) hidden))) (λ t. unfold other in (sym (getD-set-other one 296 j 5 0 (eqb-false j 296 t))))
+    word j h =
+        by-cases (eqb j 296) (λ t. absurd (h (subst (HiddenWord map1 one other) (sym (eqb-true j 296 t)) hidden)))
+        (λ t. unfold other in (sym (getD-set-other one 296 j 5 0 (eqb-false j 296 t))))
 
 trying : List Command
 trying = Read 0x250 ∷ Write 0x250 1 ∷ Digest 0x250 ∷ Read 0x270 ∷ Transition 1 0 7 ∷ []
@@ -120,14 +150,15 @@ unfolding everything one other trying
 both-answer = refl
 
 chips-agree : answers toy map1 (PowerUp ∷ trying) (off one) ≡ answers toy map1 (PowerUp ∷ trying) (off other)
-chips-agree = toy-demand3 .chips (off one) (off other) (right one (unfold one in refl)) (right other (unfold one other in refl)) refl refl alike trying matched .0
+chips-agree =
+    toy-demand3 .chips (off one) (off other) (right one (unfold one in refl)) (right other (unfold one other in refl)) refl refl alike trying matched .0
 
 -- ---- the device code: HW_CFG locked with the DEVICE_ID's first word 0x1234; a later front read that answers 0 shows it
 
 coded : List ℕ
 coded = set (set blank 256 0x1234) 292 1
 
-front-read : step toy map1 (FrontRead 0x200) (after toy map1 (PowerUp ∷ Write 0x200 0xFFFF ∷ PowerUp ∷ []) (off coded)) .result .answer ≡ Done 0x1234
+front-read : answerTo toy map1 (FrontRead 0x200) (after toy map1 (PowerUp ∷ Write 0x200 0xFFFF ∷ PowerUp ∷ []) (off coded)) ≡ Done 0x1234
 unfolding everything coded
 front-read = refl
 
@@ -140,7 +171,8 @@ course-taken = refl
 -- ---- a token: SECRET0 locked with TEST_UNLOCK 0x70 (stored with its lowest bit flipped in each block); TEST_LOCKED0 goes to TEST_UNLOCKED1
 
 tested : List ℕ
-tested = replicate 296 0 ++ (0x71 ∷ 0 ∷ 0 ∷ 0 ∷ 1 ∷ 0 ∷ 0 ∷ 0 ∷ []) ++ replicate 8 0 ++ (1 ∷ replicate 91 0) ++ (3 ∷ 3 ∷ replicate 22 1) ++ (3 ∷ 3 ∷ replicate 18 1)
+tested =
+    replicate 296 0 ++ (0x71 ∷ 0 ∷ 0 ∷ 0 ∷ 1 ∷ 0 ∷ 0 ∷ 0 ∷ []) ++ replicate 8 0 ++ (1 ∷ replicate 91 0) ++ (3 ∷ 3 ∷ replicate 22 1) ++ (3 ∷ 3 ∷ replicate 18 1)
 
 token-taken : answers toy map1 (PowerUp ∷ Transition 3 0 0x70 ∷ PowerUp ∷ []) (off tested) ≡ Done 514 ∷ Done 0 ∷ Done 771 ∷ []
 unfolding everything tested
@@ -155,14 +187,17 @@ token-refused = refl
 summing : Primitives
 summing = record { encrypt = λ key block. bitXor block 1; decrypt = λ key block. bitXor block 1; digest = λ start final words. getD words 0 0 }
 
-digest-taken : answers summing map1 (PowerUp ∷ Write 0x250 0x40 ∷ Digest 0x250 ∷ Write 0x258 0x40 ∷ PowerUp ∷ Read 0x250 ∷ Read 0x270 ∷ []) (chip summing (λ i. 0) blank)
+digest-taken :
+    answers summing map1 (PowerUp ∷ Write 0x250 0x40 ∷ Digest 0x250 ∷ Write 0x258 0x40 ∷ PowerUp ∷ Read 0x250 ∷ Read 0x270 ∷ []) (chip summing (λ i. 0) blank)
     ≡ Done 0 ∷ Done 0 ∷ Done 0x41 ∷ Done 0 ∷ Done 0 ∷ Denied ∷ Done 0x41 ∷ []
 unfolding everything summing
 digest-taken = refl
 
 -- ---- read locks last until power-up, and locking again answers 0
 
-locks-last : answers toy map1 (PowerUp ∷ ReadLock 1 ∷ ReadLock 1 ∷ Read 0x100 ∷ PowerUp ∷ Read 0x100 ∷ ReadLock 2 ∷ []) (off blank) ≡ Done 0 ∷ Done 0 ∷ Done 0 ∷ Denied ∷ Done 0 ∷ Done 0 ∷ Denied ∷ []
+locks-last :
+    answers toy map1 (PowerUp ∷ ReadLock 1 ∷ ReadLock 1 ∷ Read 0x100 ∷ PowerUp ∷ Read 0x100 ∷ ReadLock 2 ∷ []) (off blank)
+    ≡ Done 0 ∷ Done 0 ∷ Done 0 ∷ Denied ∷ Done 0 ∷ Done 0 ∷ Denied ∷ []
 unfolding everything
 locks-last = refl
 

@@ -1,4 +1,5 @@
 pub mod Acts
+pub mod Transitions
 pub mod Frame
 pub mod Steps
 pub mod Locks
@@ -7,7 +8,11 @@ pub mod Writes
 pub mod Chips
 pub mod Strokes
 pub mod Device
+pub mod Refusals
+pub mod Deaths
+pub mod Quiet
 pub mod Theorems
 pub mod Everything
+pub mod LifeCyclePlace
 pub mod Cases
 pub mod Examples

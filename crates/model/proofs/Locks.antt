@@ -24,11 +24,11 @@ use Rattle.model.specs.Lent.{Lent, Machine, Primitives}
 use Rattle.model.specs.Acts.{Turn, stay, lock, halt, die, turned}
 use Rattle.model.specs.Commands.{storedDigest}
 use Rattle.model.specs.PowerUp.{digests, Waking, fails, wakes, waking, wokenSession}
-use Rattle.model.specs.Step.{Step, unchanged, performed, act, powerUp, step, after}
+use Rattle.model.specs.Step.{Step, unchanged, performed, act, powerUp, after, machineAfter}
 use Rattle.model.specs.Terms.{Right, Digested, SamePartition}
 use Rattle.model.proofs.Acts.{perform-frame}
 use Rattle.model.proofs.Frame.{Open, unlocked, lifeCycle, act-within}
-use Rattle.model.proofs.Steps.{after-append, step-all, step-up, after-right}
+use Rattle.model.proofs.Steps.{after-append, step-all, step-up, after-right, acted, poweredUp}
 
 pub same-refl : {map : Map} {n : ℕ} {c : List ℕ} → SamePartition map n c c
 same-refl = record { at = λ j l u. refl }
@@ -53,11 +53,13 @@ turned-ready die s e = absurd (true-not-false e refl)
 
 -- the digest of partition n among those of the map
 module _ (f : Partition → ℕ) where
-  digests-at : (map : Map) (n : ℕ) → n < length map → ((i : ℕ) → i ≤ n → rightsOf (partition map i .kind) .direct ≡ true) → getD (digests f map) n 0 ≡ f (partition map n)
+  digests-at : (map : Map) (n : ℕ) → n < length map → ((i : ℕ) → i ≤ n → rightsOf (partition map i .kind) .direct ≡ true)
+      → getD (digests f map) n 0 ≡ f (partition map n)
   unfolding digests partition
   digests-at [] n l h = absurd (omega arith)
   digests-at (p ∷ ps) zero l h = rw (if-true (f p ∷ digests f ps) (digests f ps) (h 0 (omega arith)))
-  digests-at (p ∷ ps) (suc n) l h = rw (if-true (f p ∷ digests f ps) (digests f ps) (h 0 (omega arith))) (digests-at ps n (omega arith) (λ i k. h (suc i) (omega arith)))
+  digests-at (p ∷ ps) (suc n) l h =
+      rw (if-true (f p ∷ digests f ps) (digests f ps) (h 0 (omega arith))) (digests-at ps n (omega arith) (λ i k. h (suc i) (omega arith)))
 
 module _ (prims : Primitives) (map : Map) (F : fit map ≡ true) (n : ℕ) (D : Digested map n) where
   -- every partition up to one with a digest has one
@@ -87,33 +89,33 @@ module _ (prims : Primitives) (map : Map) (F : fit map ≡ true) (n : ℕ) (D : 
   woken-felt (fails reason answer) l h r z = true-not-false r refl
   woken-felt (wakes state count) l h r z = h (sym (sensed-stored l) ∙ z)
 
-  pub up-locked : (m : Machine) → (storedDigest (partition map n) (m .lent .cells) ≡ 0 → ⊥) → Locked (powerUp prims map m .result .machine)
+  pub up-locked : (m : Machine) → (storedDigest (partition map n) (m .lent .cells) ≡ 0 → ⊥) → Locked (poweredUp prims map m)
   unfolding powerUp
   up-locked m h = record { burnt = h; felt = woken-felt (waking prims map (m .lent)) (m .lent) h }
 
   shut : (x : Command) (m : Machine) → Locked m → (j : ℕ) → partition map n .start ≤ 2 * j → 2 * j < partition map n .end → Open map x (m .session) j → ⊥
-  shut x m k j l u (unlocked r d z) = k .felt r (rw (only map F (D .known) l u) at z)
+  shut x m k j l u (unlocked r d z aim) = k .felt r (rw (only map F (D .known) l u) at z)
   shut x m k j l u (lifeCycle r t e) =
       let q : n ≡ numberOfKind map kind.LifeCycle = sym (only map F (D .known) l u) ∙ e in
       true-not-false (D .direct) (rw (← q) at (life-cycle-partition map F .closed))
 
-  pub act-same : (x : Command) (m : Machine) → Locked m → SamePartition map n (m .lent .cells) (act prims map x m .result .machine .lent .cells)
+  pub act-same : (x : Command) (m : Machine) → Locked m → SamePartition map n (m .lent .cells) (acted prims map x m .lent .cells)
   unfolding act performed
   act-same x m k = record { at = λ j l u. sym (perform-frame (act-within prims map F m x) (m .lent .copy) (m .lent .cells) j (shut x m k j l u)) }
 
-  act-felt : (x : Command) (m : Machine) → Locked m → isReady (act prims map x m .result .machine .session .phase) ≡ true → sensedAt (act prims map x m .result .machine .session) n ≡ 0 → ⊥
+  act-felt : (x : Command) (m : Machine) → Locked m → isReady (acted prims map x m .session .phase) ≡ true → sensedAt (acted prims map x m .session) n ≡ 0 → ⊥
   unfolding act performed sensedAt
   act-felt x m k r z = k .felt (turned-ready _ (m .session) r) (rw turned-sensed at z)
 
-  pub act-locked : (x : Command) (m : Machine) → Locked m → Locked (act prims map x m .result .machine)
+  pub act-locked : (x : Command) (m : Machine) → Locked m → Locked (acted prims map x m)
   act-locked x m k = record { burnt = λ z. k .burnt (stored-same _ _ (act-same x m k) ∙ z); felt = act-felt x m k }
 
-  up-same : (m : Machine) → SamePartition map n (m .lent .cells) (powerUp prims map m .result .machine .lent .cells)
+  up-same : (m : Machine) → SamePartition map n (m .lent .cells) (poweredUp prims map m .lent .cells)
   unfolding powerUp
   up-same m = same-refl
 
   pub step-locked : (x : Command) (m : Machine) → Locked m
-      → Locked (step prims map x m .result .machine) × SamePartition map n (m .lent .cells) (step prims map x m .result .machine .lent .cells)
+      → Locked (machineAfter prims map x m) × SamePartition map n (m .lent .cells) (machineAfter prims map x m .lent .cells)
   unfolding unchanged
   step-locked x m k =
       step-all prims map (λ (s : Step). Locked (s .result .machine) × SamePartition map n (m .lent .cells) (s .result .machine .lent .cells)) x m
@@ -125,12 +127,12 @@ module _ (prims : Primitives) (map : Map) (F : fit map ≡ true) (n : ℕ) (D : 
   after-locked [] m k = (k, same-refl)
   after-locked (x ∷ l) m k =
       let s = step-locked x m k in
-      let t = after-locked l (step prims map x m .result .machine) (s .0) in
+      let t = after-locked l (machineAfter prims map x m) (s .0) in
       (t .0, same-trans (s .1) (t .1))
 
   first-locked : (m : Machine) → Right map m → (storedDigest (partition map n) (m .lent .cells) ≡ 0 → ⊥)
-      → Locked (step prims map PowerUp m .result .machine) × SamePartition map n (m .lent .cells) (step prims map PowerUp m .result .machine .lent .cells)
-  first-locked m r h = rw (step-up prims map m r) (up-locked m h, up-same m)
+      → Locked (machineAfter prims map PowerUp m) × SamePartition map n (m .lent .cells) (machineAfter prims map PowerUp m .lent .cells)
+  first-locked m r h = rw (step-up prims map m r, machineAfter) (up-locked m h, up-same m)
 
   -- from a power-up that found it locked on, the partition is locked and the same
   pub locked-since : (m : Machine) → Right map m → (l₁ l₂ : List Command) → (storedDigest (partition map n) (after prims map l₁ m .lent .cells) ≡ 0 → ⊥)
@@ -139,5 +141,5 @@ module _ (prims : Primitives) (map : Map) (F : fit map ≡ true) (n : ℕ) (D : 
   locked-since m r l₁ l₂ h =
       let m₁ = after prims map l₁ m in
       let k = first-locked m₁ (after-right prims map l₁ m r) h in
-      let t = after-locked l₂ (step prims map PowerUp m₁ .result .machine) (k .0) in
+      let t = after-locked l₂ (machineAfter prims map PowerUp m₁) (k .0) in
       rw after-append (t .0, same-trans (k .1) (t .1))

@@ -1,22 +1,17 @@
 -- What lasts while a chip is Ready. The idea: a command after which Ready lasts is an act whose turn leaves the phase, the sensed digests and
 -- the lengths; so the record still tells what the last power-up found.
-use mathlib.Core.Path.{_≡_, refl, sym, subst, _∙_}
-use mathlib.Core.Bool.{Bool, true, not}
+use mathlib.Core.Path.{_≡_, refl, subst, _∙_}
+use mathlib.Core.Bool.{true}
 use mathlib.Core.List.{List, [], _∷_}
 use Prim.Native.Nat.{ℕ}
 use native.Mathlib.Omega.{arith}
-use lib.Dec.{T, T-not, eqb}
-use Rattle.basics.specs.Choice.{if_then_else_}
+use borrow.Author.Tests.{eqb-false}
 use Rattle.basics.proofs.Choice.{if-both}
 use Rattle.partitions.specs.Fitness.{fit}
 use Rattle.partitions.specs.Map.{Map, partition}
 use mathlib.Core.Option.{Option, none, some}
 use Rattle.life_cycle.specs.declared.LifeCycle.{LifeCycle}
 use Rattle.life_cycle.specs.declared.LifeCycle.the-variants.{Valid, Invalid}
-use Rattle.life_cycle.specs.declared.Token.{Token}
-use Rattle.life_cycle.specs.declared.Token.the-variants.{Nothing, RawUnlock, TestUnlock, TestExit, Rma}
-use Rattle.life_cycle.specs.declared.Entry.{Entry}
-use Rattle.life_cycle.specs.declared.Entry.the-variants.{Allowed, Forbidden}
 use Rattle.life_cycle.specs.Transitions.{transition}
 use Rattle.model.specs.declared.Answer.{Answer}
 use Rattle.model.specs.declared.Session.{Session}
@@ -25,13 +20,14 @@ use Rattle.model.specs.declared.Command.the-variants.{Read, Write, Front
 use Rattle.model.specs.Answers.{codeOf}
 use Rattle.model.specs.Session.{isReady, sensedAt}
 use Rattle.model.specs.Lent.{Machine, Primitives}
-use Rattle.model.specs.Acts.{Turn, stay, lock, halt, die, turned, Act, perform}
-use Rattle.model.specs.Commands.{storedDigest, writeAct, readAct, frontReadAct, digestAct, readLockAct, moveAct, lockedTokenAct, tokenAct, entryAct, transitionAct, commandAct, readyAct}
+use Rattle.model.specs.Acts.{Turn, stay, lock, halt, die, turned, Act}
+use Rattle.model.specs.Commands.{storedDigest, writeAct, readAct, frontReadAct, digestAct, readLockAct, transitionAct, commandAct, readyAct}
 use Rattle.model.specs.PowerUp.{Waking, wakes, waking, wakingOf, lifeCycleWaking, wokenSession, wokenAnswer}
-use Rattle.model.specs.Step.{performed, act, powerUp, obey, step, after}
+use Rattle.model.specs.Step.{performed, act, powerUp, step, after, machineAfter, answerTo}
 use Rattle.model.specs.Terms.{Right, Digested, staysReady, Lasts}
-use Rattle.model.proofs.Acts.{Gives, perform-gives, gives-if}
-use Rattle.model.proofs.Steps.{step-obeys, step-up, up-right, act-right}
+use Rattle.model.proofs.Acts.{Gives, perform-gives, gives-either}
+use Rattle.model.proofs.Transitions.{Ends, entry-gives}
+use Rattle.model.proofs.Steps.{obeys-act, step-obeys, step-up, up-right, act-right, acted, poweredUp}
 use Rattle.model.proofs.Locks.{turned-sensed, sensed-stored}
 
 -- a turn that leaves the phase
@@ -46,13 +42,6 @@ unfolding turned
 calm-phase stay s h = refl
 calm-phase (lock number) s h = refl
 
-gives-either : {T : Answer → Turn → Type 0} (b : Bool) {x y : Act} → Gives T x → Gives T y → Gives T (if b then x else y)
-gives-either b f g = gives-if (λ e. f) (λ e. g)
-
--- a code that is not 0x11
-differs : {n : ℕ} → T (not (eqb n 0x11)) → n ≡ 0x11 → ⊥
-differs {n} t e = T-not (eqb n 0x11) t (subst (λ (x : ℕ). T (eqb x 0x11)) (sym e) tt)
-
 -- an answer with which Ready lasts goes with a calm turn
 abbrev Calm : Command → Answer → Turn → Type 0
 Calm x answer t = staysReady x answer → calm t
@@ -61,28 +50,16 @@ Calm x answer t = staysReady x answer → calm t
 abbrev Other : Answer → Turn → Type 0
 Other answer t = codeOf answer ≡ 0x11 → ⊥
 
+other-ends : Ends Other
+other-ends = record {
+  cleared = λ cell. eqb-false _ _ refl;
+  moved = eqb-false _ _ refl;
+  forbidden = eqb-false _ _ refl;
+  open? = eqb-false _ _ refl;
+  differs = eqb-false _ _ refl;
+}
+
 module _ (prims : Primitives) (map : Map) (m : Machine) where
-  move-other : (target : ℕ) → Gives Other (moveAct prims map m target)
-  unfolding moveAct
-  move-other target = Gives.programs (λ cell. differs tt) (Gives.says (differs tt))
-
-  locked-other : (k : Token) (target given : ℕ) → Gives Other (lockedTokenAct prims map m k target given)
-  unfolding lockedTokenAct
-  locked-other k target given = gives-either _ (Gives.says (differs tt)) (Gives.compares (move-other target) (Gives.says (differs tt)))
-
-  token-other : (k : Token) (target given : ℕ) → Gives Other (tokenAct prims map m k target given)
-  unfolding tokenAct
-  token-other Nothing target given = move-other target
-  token-other RawUnlock target given = Gives.compares (move-other target) (Gives.says (differs tt))
-  token-other TestUnlock target given = locked-other TestUnlock target given
-  token-other TestExit target given = locked-other TestExit target given
-  token-other Rma target given = locked-other Rma target given
-
-  pub entry-other : (e : Entry) (target given : ℕ) → Gives Other (entryAct prims map m e target given)
-  unfolding entryAct
-  entry-other Forbidden target given = Gives.says (differs tt)
-  entry-other (Allowed k) target given = token-other k target given
-
   loud : {x : Act} → Gives Other x → Gives (λ answer t. codeOf answer ≡ 0x11 → calm t) x
   loud (Gives.says h) = Gives.says (λ e. absurd (h e))
   loud (Gives.programs h next) = Gives.programs (λ cell e. absurd (h cell e)) (loud next)
@@ -96,47 +73,21 @@ module _ (prims : Primitives) (map : Map) (m : Machine) where
   command-calm (Digest a) = search (gives-either, Gives.says, Gives.programs) depth 9
   command-calm (ReadLock number) = search (gives-either, Gives.says) depth 9
   command-calm (Transition target high low) =
-      gives-either _ (Gives.says (λ e. tt)) (gives-either _ (Gives.says (λ e. tt)) (gives-either _ (Gives.says (λ e. absurd (differs tt e)))
-      (Gives.programs (λ cell e. absurd (differs tt e)) (loud (entry-other (transition (m .session .state) target) target _)))))
+      gives-either _ (Gives.says (λ e. tt)) (gives-either _ (Gives.says (λ e. tt)) (gives-either _ (Gives.says (λ e. absurd (eqb-false _ _ refl e)))
+      (Gives.programs (λ cell e. absurd (eqb-false _ _ refl e)) (loud (entry-gives other-ends prims map m (transition (m .session .state) target) target _)))))
   command-calm PowerUp = Gives.says (λ e. tt)
 
   pub act-calm : (x : Command) → Gives (Calm x) (readyAct prims map m x)
   unfolding readyAct
-  act-calm (Read a) = gives-either _ (Gives.says (λ e. tt)) (command-calm (Read a))
-  act-calm (Write a value) = gives-either _ (Gives.says (λ e. tt)) (command-calm (Write a value))
-  act-calm (FrontRead a) = gives-either _ (Gives.says (λ e. tt)) (command-calm (FrontRead a))
-  act-calm (Digest a) = gives-either _ (Gives.says (λ e. tt)) (command-calm (Digest a))
-  act-calm (ReadLock number) = gives-either _ (Gives.says (λ e. tt)) (command-calm (ReadLock number))
-  act-calm (Transition target high low) = gives-either _ (Gives.says (λ e. tt)) (command-calm (Transition target high low))
-  act-calm PowerUp = gives-either _ (Gives.says (λ e. tt)) (command-calm PowerUp)
-
-  -- a transition that answers 0x11 changes no cell
-  pub unmoved : (target high low : ℕ)
-      → codeOf (perform (readyAct prims map m (Transition target high low)) (m .lent .copy) (m .lent .cells) .answer) ≡ 0x11
-      → perform (readyAct prims map m (Transition target high low)) (m .lent .copy) (m .lent .cells) .cells ≡ m .lent .cells
-  unfolding readyAct commandAct transitionAct perform
-  unmoved target high low =
-      if-both Q _ _ _ (λ t e. refl) λ t. if-both Q _ _ _ (λ t e. refl) λ t. if-both Q _ _ _ (λ t e. refl) λ t. if-both Q _ _ _ (λ t e. refl) λ t. λ e.
-      absurd (perform-gives (Gives.programs (λ cell. differs tt) (entry-other (transition (m .session .state) target) target _)) (m .lent .copy) (m .lent .cells) e)
-    where
-      Q : Act → Type 0
-      Q x = codeOf (perform x (m .lent .copy) (m .lent .cells) .answer) ≡ 0x11 → perform x (m .lent .copy) (m .lent .cells) .cells ≡ m .lent .cells
+  act-calm x = gives-either _ (Gives.says (λ e. tt)) (command-calm x)
 
 -- ---- a chip that is Ready since a power-up that found the cells c₀
 
 -- a command after which Ready lasts is an act
-obey-act : (prims : Primitives) (map : Map) (x : Command) (m : Machine) (answer : Answer) → staysReady x answer → obey prims map x m ≡ act prims map x m
-unfolding obey
-obey-act prims map (Read a) m answer h = refl
-obey-act prims map (Write a value) m answer h = refl
-obey-act prims map (FrontRead a) m answer h = refl
-obey-act prims map (Digest a) m answer h = refl
-obey-act prims map (ReadLock number) m answer h = refl
-obey-act prims map (Transition target high low) m answer h = refl
-obey-act prims map PowerUp m answer h = absurd h
-
-pub step-act : (prims : Primitives) (map : Map) (x : Command) (m : Machine) → Right map m → staysReady x (step prims map x m .result .answer) → step prims map x m ≡ act prims map x m
-step-act prims map x m r h = step-obeys prims map x m r ∙ obey-act prims map x m _ h
+pub step-act : (prims : Primitives) (map : Map) (x : Command) (m : Machine) → Right map m
+    → staysReady x (answerTo prims map x m) → step prims map x m ≡ act prims map x m
+step-act prims map x m r h =
+    step-obeys prims map x m r ∙ obeys-act prims map x m (λ e. subst (λ (y : Command). staysReady y (answerTo prims map x m)) e h)
 
 pub record Fresh (map : Map) (c₀ : List ℕ) (m : Machine) : Type 0 where
   pub awake : isReady (m .session .phase) ≡ true
@@ -158,7 +109,8 @@ module _ (prims : Primitives) (map : Map) (F : fit map ≡ true) where
   waking-wakes (some number) life Q h = λ e. absurd (omega arith)
   waking-wakes none life Q h = life-wakes life Q h
 
-  pub up-wakes : (m : Machine) (Q : Waking → Type 0) → ((state count : ℕ) → Q (wakes state count)) → codeOf (powerUp prims map m .result .answer) ≡ 0x00 → Q (waking prims map (m .lent))
+  pub up-wakes : (m : Machine) (Q : Waking → Type 0) → ((state count : ℕ) → Q (wakes state count)) → codeOf (powerUp prims map m .result .answer) ≡ 0x00
+      → Q (waking prims map (m .lent))
   unfolding powerUp waking
   up-wakes m Q h = waking-wakes _ _ Q h
 
@@ -168,7 +120,7 @@ module _ (prims : Primitives) (map : Map) (F : fit map ≡ true) where
   unfolding wokenSession isReady sensedAt
   woke-fresh m state count = (refl, λ n d. sensed-stored prims map F n d (m .lent))
 
-  up-fresh : (m : Machine) → Right map m → codeOf (powerUp prims map m .result .answer) ≡ 0x00 → Fresh map (m .lent .cells) (powerUp prims map m .result .machine)
+  up-fresh : (m : Machine) → Right map m → codeOf (powerUp prims map m .result .answer) ≡ 0x00 → Fresh map (m .lent .cells) (poweredUp prims map m)
   up-fresh m r e = record { awake = unfold powerUp in (woke .0); felt = unfold powerUp in (woke .1); right = up-right prims map m r }
     where
       Q : Waking → Type 0
@@ -178,10 +130,10 @@ module _ (prims : Primitives) (map : Map) (F : fit map ≡ true) where
       woke : Q (waking prims map (m .lent))
       woke = up-wakes m Q (woke-fresh m) e
 
-  pub first-fresh : (m : Machine) → Right map m → codeOf (step prims map PowerUp m .result .answer) ≡ 0x00 → Fresh map (m .lent .cells) (step prims map PowerUp m .result .machine)
-  first-fresh m r = rw (step-up prims map m r) (up-fresh m r)
+  pub first-fresh : (m : Machine) → Right map m → codeOf (answerTo prims map PowerUp m) ≡ 0x00 → Fresh map (m .lent .cells) (machineAfter prims map PowerUp m)
+  first-fresh m r = rw (step-up prims map m r, machineAfter, answerTo) (up-fresh m r)
 
-  act-fresh : (c₀ : List ℕ) (x : Command) (m : Machine) → staysReady x (act prims map x m .result .answer) → Fresh map c₀ m → Fresh map c₀ (act prims map x m .result .machine)
+  act-fresh : (c₀ : List ℕ) (x : Command) (m : Machine) → staysReady x (act prims map x m .result .answer) → Fresh map c₀ m → Fresh map c₀ (acted prims map x m)
   unfolding act performed sensedAt
   act-fresh c₀ x m h f = record {
     awake = rw (calm-phase _ (m .session) (perform-gives (act-calm prims map m x) (m .lent .copy) (m .lent .cells) h)) (f .awake);
@@ -189,10 +141,11 @@ module _ (prims : Primitives) (map : Map) (F : fit map ≡ true) where
     right = act-right prims map x m (f .right);
   }
 
-  pub step-fresh : (c₀ : List ℕ) (x : Command) (m : Machine) → staysReady x (step prims map x m .result .answer) → Fresh map c₀ m → Fresh map c₀ (step prims map x m .result .machine)
-  step-fresh c₀ x m h f = let e = step-act prims map x m (f .right) h in rw e (act-fresh c₀ x m (rw e at h) f)
+  pub step-fresh : (c₀ : List ℕ) (x : Command) (m : Machine) → staysReady x (answerTo prims map x m) → Fresh map c₀ m
+      → Fresh map c₀ (machineAfter prims map x m)
+  step-fresh c₀ x m h f = let e = step-act prims map x m (f .right) h in rw (e, machineAfter) (act-fresh c₀ x m (rw (e, answerTo) at h) f)
 
   pub after-fresh : (c₀ : List ℕ) (l : List Command) (m : Machine) → Lasts prims map l m → Fresh map c₀ m → Fresh map c₀ (after prims map l m)
   unfolding Lasts after
   after-fresh c₀ [] m h f = f
-  after-fresh c₀ (x ∷ l) m h f = after-fresh c₀ l (step prims map x m .result .machine) (h .1) (step-fresh c₀ x m (h .0) f)
+  after-fresh c₀ (x ∷ l) m h f = after-fresh c₀ l (machineAfter prims map x m) (h .1) (step-fresh c₀ x m (h .0) f)

@@ -1,12 +1,12 @@
 -- One command and lists of commands, whatever the command. The idea: a step is a refusal that changes nothing, a power-up or a performed act.
 use mathlib.Core.Path.{_≡_, refl, _∙_}
-use mathlib.Core.Bool.{Bool, true, not, _&&_}
+use mathlib.Core.Bool.{true, not}
 use mathlib.Core.List.{List, [], _∷_, _++_}
 use Prim.Native.Nat.{ℕ, _/_}
 use lib.Dec.{eqb}
 use lib.ListN.{length}
 use borrow.Author.Tests.{eqb-true, eq-eqb}
-use Rattle.basics.proofs.Choice.{if-both, if-false, and-left, and-right}
+use Rattle.basics.proofs.Choice.{if-both, if-false, and-three}
 use Rattle.basics.proofs.Range.{length-listed}
 use Rattle.words.specs.Programming.{Kept}
 use Rattle.words.proofs.Programming.{kept-refl, kept-trans}
@@ -17,9 +17,10 @@ use Rattle.model.specs.declared.Answer.the-variants.{WrongLength, Invali
 use Rattle.model.specs.declared.Command.{Command}
 use Rattle.model.specs.declared.Command.the-variants.{Read, Write, FrontRead, Digest, ReadLock, Transition, PowerUp}
 use Rattle.model.specs.Lent.{Lent, Machine, Primitives, rightLengths}
+use Rattle.model.specs.Acts.{Performed, perform}
 use Rattle.model.specs.Commands.{readyAct}
 use Rattle.model.specs.PowerUp.{Waking, fails, wakes, wokenCopy}
-use Rattle.model.specs.Step.{Step, unchanged, performed, act, powerUp, obey, step, after}
+use Rattle.model.specs.Step.{Step, unchanged, performed, act, powerUp, obey, step, after, machineAfter}
 use Rattle.model.specs.Terms.{Right}
 use Rattle.model.proofs.Acts.{perform-kept, perform-length}
 
@@ -27,24 +28,49 @@ module _ (prims : Primitives) (map : Map) where
   pub after-append : (xs ys : List Command) (m : Machine) → after prims map (xs ++ ys) m ≡ after prims map ys (after prims map xs m)
   unfolding after
   after-append [] ys m = refl
-  after-append (x ∷ xs) ys m = after-append xs ys (step prims map x m .result .machine)
+  after-append (x ∷ xs) ys m = after-append xs ys (machineAfter prims map x m)
 
-  obey-all : (Q : Step → Type 0) (x : Command) (m : Machine) → Q (powerUp prims map m) → Q (act prims map x m) → Q (obey prims map x m)
+  -- what the act of a command comes to
+  abbrev pub outcome : Command → Machine → Performed
+  outcome x m = perform (readyAct prims map m x) (m .lent .copy) (m .lent .cells)
+
+  -- the machine after an act, and after a power-up
+  abbrev pub acted : Command → Machine → Machine
+  acted x m = act prims map x m .result .machine
+
+  abbrev pub poweredUp : Machine → Machine
+  poweredUp m = powerUp prims map m .result .machine
+
+  -- a command is power-up or an act
+  by-obeying : {X : Type 0} (x : Command) → (x ≡ PowerUp → X) → (((m : Machine) → obey prims map x m ≡ act prims map x m) → X) → X
   unfolding obey
-  obey-all Q (Read a) m h f = f
-  obey-all Q (Write a value) m h f = f
-  obey-all Q (FrontRead a) m h f = f
-  obey-all Q (Digest a) m h f = f
-  obey-all Q (ReadLock number) m h f = f
-  obey-all Q (Transition target high low) m h f = f
-  obey-all Q PowerUp m h f = h
+  by-obeying (Read a) f g = g (λ m. refl)
+  by-obeying (Write a value) f g = g (λ m. refl)
+  by-obeying (FrontRead a) f g = g (λ m. refl)
+  by-obeying (Digest a) f g = g (λ m. refl)
+  by-obeying (ReadLock number) f g = g (λ m. refl)
+  by-obeying (Transition target high low) f g = g (λ m. refl)
+  by-obeying PowerUp f g = f refl
+
+  pub obeys-act : (x : Command) (m : Machine) → (x ≡ PowerUp → ⊥) → obey prims map x m ≡ act prims map x m
+  obeys-act x m n = by-obeying x (λ e. absurd (n e)) (λ e. e m)
+
+  pub obey-both : (Q : Step → Step → Type 0) (x : Command) (m n : Machine)
+      → Q (powerUp prims map m) (powerUp prims map n) → Q (act prims map x m) (act prims map x n) → Q (obey prims map x m) (obey prims map x n)
+  obey-both Q x m n h f = by-obeying x (λ e. rw e (unfold obey in h)) (λ e. rw (e m, e n) f)
+
+  -- what holds of a refusal and of the command obeyed
+  pub step-both : (Q : Step → Type 0) (x : Command) (m : Machine) → ((answer : Answer) → Q (unchanged answer m)) → Q (obey prims map x m)
+      → Q (step prims map x m)
+  unfolding step
+  step-both Q x m u h =
+      if-both Q (not (rightLengths map (m .lent))) _ _ (λ e. u WrongLength)
+      (λ e. if-both Q (not (validConstants (m .lent .constants))) _ _ (λ e. u InvalidConstants) (λ e. h))
 
   -- what holds of a refusal, of a power-up and of an act holds of every command
-  pub step-all : (Q : Step → Type 0) (x : Command) (m : Machine) → ((answer : Answer) → Q (unchanged answer m)) → Q (powerUp prims map m) → Q (act prims map x m) → Q (step prims map x m)
-  unfolding step
-  step-all Q x m u h f =
-      if-both Q (not (rightLengths map (m .lent))) _ _ (λ e. u WrongLength)
-      (λ e. if-both Q (not (validConstants (m .lent .constants))) _ _ (λ e. u InvalidConstants) (λ e. obey-all Q x m h f))
+  pub step-all : (Q : Step → Type 0) (x : Command) (m : Machine)
+      → ((answer : Answer) → Q (unchanged answer m)) → Q (powerUp prims map m) → Q (act prims map x m) → Q (step prims map x m)
+  step-all Q x m u h f = step-both Q x m u (obey-both (λ s _. Q s) x m m h f)
 
   -- with right lengths and valid constants the command is obeyed
   pub step-obeys : (x : Command) (m : Machine) → Right map m → step prims map x m ≡ obey prims map x m
@@ -57,7 +83,7 @@ module _ (prims : Primitives) (map : Map) where
 
   -- ---- bits stay
 
-  step-kept : (x : Command) (m : Machine) → Kept (m .lent .cells) (step prims map x m .result .machine .lent .cells)
+  step-kept : (x : Command) (m : Machine) → Kept (m .lent .cells) (machineAfter prims map x m .lent .cells)
   unfolding act performed powerUp unchanged
   step-kept x m =
       step-all (λ (s : Step). Kept (m .lent .cells) (s .result .machine .lent .cells)) x m (λ a. kept-refl) kept-refl
@@ -66,7 +92,7 @@ module _ (prims : Primitives) (map : Map) where
   pub after-kept : (l : List Command) (m : Machine) → Kept (m .lent .cells) (after prims map l m .lent .cells)
   unfolding after
   after-kept [] m = kept-refl
-  after-kept (x ∷ l) m = kept-trans (step-kept x m) (after-kept l (step prims map x m .result .machine))
+  after-kept (x ∷ l) m = kept-trans (step-kept x m) (after-kept l (machineAfter prims map x m))
 
   pub bits-stay : (m : Machine) (l₁ l₂ : List Command) → Kept (after prims map l₁ m .lent .cells) (after prims map (l₁ ++ l₂) m .lent .cells)
   bits-stay m l₁ l₂ = rw after-append (after-kept l₂ (after prims map l₁ m))
@@ -77,9 +103,8 @@ module _ (prims : Primitives) (map : Map) where
       → (length (l .cells) ≡ limit map / 2) × (length (l .copy) ≡ limit map / 2) × (length (l .constants) ≡ 132)
   unfolding rightLengths
   lengths-of l e =
-      let a : Bool = eqb (length (l .cells)) (limit map / 2) && eqb (length (l .copy)) (limit map / 2) in
-      let f : (eqb (length (l .cells)) (limit map / 2) && eqb (length (l .copy)) (limit map / 2)) ≡ true = and-left _ (eqb (length (l .constants)) 132) e in
-      (eqb-true _ _ (and-left _ _ f), eqb-true _ _ (and-right (eqb (length (l .cells)) (limit map / 2)) _ f), eqb-true _ _ (and-right a _ e))
+      let s = and-three (eqb (length (l .cells)) (limit map / 2)) (eqb (length (l .copy)) (limit map / 2)) _ e in
+      (eqb-true _ _ (s .0), eqb-true _ _ (s .1), eqb-true _ _ (s .2))
 
   pub cells-length : (m : Machine) → Right map m → length (m .lent .cells) ≡ limit map / 2
   cells-length m r = lengths-of (m .lent) (r .lengths) .0
@@ -100,30 +125,31 @@ module _ (prims : Primitives) (map : Map) where
   woken-length (fails reason answer) l = length-listed _ 0 _
   woken-length (wakes state count) l = length-listed _ 0 _
 
-  pub up-right : (m : Machine) → Right map m → Right map (powerUp prims map m .result .machine)
+  pub up-right : (m : Machine) → Right map m → Right map (poweredUp m)
   unfolding powerUp
   up-right m r = record { lengths = right-again m r (m .lent .cells) _ (cells-length m r) (woken-length _ (m .lent)); valid = r .valid; words = r .words }
 
-  pub act-right : (x : Command) (m : Machine) → Right map m → Right map (act prims map x m .result .machine)
+  pub act-right : (x : Command) (m : Machine) → Right map m → Right map (acted x m)
   unfolding act performed
   act-right x m r =
-      record { lengths = right-again m r _ (m .lent .copy) (perform-length _ (m .lent .copy) (m .lent .cells) ∙ cells-length m r) (copy-length m r); valid = r .valid; words = r .words }
+      let same = perform-length _ (m .lent .copy) (m .lent .cells) ∙ cells-length m r in
+      record { lengths = right-again m r _ (m .lent .copy) same (copy-length m r); valid = r .valid; words = r .words }
 
-  pub step-right : (x : Command) (m : Machine) → Right map m → Right map (step prims map x m .result .machine)
+  pub step-right : (x : Command) (m : Machine) → Right map m → Right map (machineAfter prims map x m)
   unfolding unchanged
   step-right x m r = step-all (λ (s : Step). Right map (s .result .machine)) x m (λ a. r) (up-right m r) (act-right x m r)
 
   pub after-right : (l : List Command) (m : Machine) → Right map m → Right map (after prims map l m)
   unfolding after
   after-right [] m r = r
-  after-right (x ∷ l) m r = after-right l (step prims map x m .result .machine) (step-right x m r)
+  after-right (x ∷ l) m r = after-right l (machineAfter prims map x m) (step-right x m r)
 
   -- nobody writes the constants
-  pub step-constants : (x : Command) (m : Machine) → step prims map x m .result .machine .lent .constants ≡ m .lent .constants
+  pub step-constants : (x : Command) (m : Machine) → machineAfter prims map x m .lent .constants ≡ m .lent .constants
   unfolding act performed powerUp unchanged
   step-constants x m = step-all (λ (s : Step). s .result .machine .lent .constants ≡ m .lent .constants) x m (λ a. refl) refl refl
 
   pub after-constants : (l : List Command) (m : Machine) → after prims map l m .lent .constants ≡ m .lent .constants
   unfolding after
   after-constants [] m = refl
-  after-constants (x ∷ l) m = after-constants l (step prims map x m .result .machine) ∙ step-constants x m
+  after-constants (x ∷ l) m = after-constants l (machineAfter prims map x m) ∙ step-constants x m

@@ -1,23 +1,22 @@
 -- Transitions from power-up on. The idea: while the phase is Ready the cells hold the record's state and count; the words of one stroke more,
 -- and of an allowed state, cover those words, so no transition answers 4, and what is decoded only moves along the table.
-use mathlib.Core.Path.{_≡_, refl, sym, ap, ap₂, subst, _∙_}
-use mathlib.Core.Bool.{Bool, true, false, not}
+use mathlib.Core.Path.{_≡_, refl, ap, ap₂, _∙_}
+use mathlib.Core.Bool.{Bool, true, false}
 use mathlib.Core.List.{List, [], _∷_, _++_}
 use mathlib.Core.Option.{Option, none, some}
 use Prim.Native.Nat.{ℕ, suc, _+_, _*_, _^_, _≤_, _<_}
 use native.Mathlib.Omega.{arith}
-use lib.Dec.{T, T-not, eqb}
-use lib.ListN.{length, getD}
-use borrow.Author.Tests.{ltb-true, not-false}
+use lib.Dec.{eqb}
+use lib.ListN.{length}
+use borrow.Author.Tests.{eqb-false, ltb-true, not-false}
 use Rattle.basics.proofs.Choice.{true-not-false, if-both}
 use Rattle.words.specs.declared.Programmed.the-variants as programmed
 use Rattle.words.specs.Words.{partAt}
 use Rattle.words.specs.Programming.{programAnswer, programCells}
-use Rattle.words.proofs.Words.{Words}
 use Rattle.words.proofs.Parts.{part-same}
 use Rattle.words.proofs.Programming.{program-elsewhere, program-takes, program-length}
 use Rattle.partitions.specs.declared.Kind.the-variants as kind
-use Rattle.partitions.specs.Map.{Map, partitionAt, numberOfKind}
+use Rattle.partitions.specs.Map.{Map, numberOfKind}
 use Rattle.partitions.specs.Fitness.{fit}
 use Rattle.partitions.proofs.Map.{life-cycle-last, life-cycle-partition, partition-fit}
 use Rattle.life_cycle.specs.declared.LifeCycle.{LifeCycle}
@@ -43,17 +42,21 @@ use Rattle.model.specs.Lent.{Lent, Machine, Primitives}
 use Rattle.model.specs.Acts.{Turn, stay, lock, halt, die, turned, Act, say, program, compare, Performed, afterProgram, noting, perform}
 use Rattle.model.specs.Commands.{counterAt, stateAt, moveAct, lockedTokenAct, tokenAct, entryAct, transitionAct, commandAct, readyAct}
 use Rattle.model.specs.PowerUp.{Waking, waking, wakingOf, lifeCycleWaking, verdictOf, lifeCycleIn, wokenSession}
-use Rattle.model.specs.Step.{Step, unchanged, performed, act, powerUp, obey, step, after}
+use Rattle.model.specs.Step.{Step, unchanged, performed, act, powerUp, obey, step, after, machineAfter, answerTo}
 use Rattle.model.specs.Terms.{Right}
 use Rattle.model.specs.Beyond.{Course, stays, spends, moves, Rising}
 use Rattle.model.proofs.Acts.{perform-frame}
-use Rattle.model.proofs.Frame.{Open, unlocked, lifeCycle, isTransition, life-words, act-within}
-use Rattle.model.proofs.Steps.{after-append, step-all, step-obeys, step-up, step-right, after-right, cells-length}
+use Rattle.model.proofs.Frame.{Open, unlocked, lifeCycle, isTransition, life-words, life-closed, life-same, act-within}
+use Rattle.model.proofs.Steps.{after-append, step-all, step-obeys, step-up, step-right, after-right, cells-length, acted, poweredUp}
 use Rattle.model.proofs.Locks.{turned-ready}
 
--- while the phase is Ready the cells hold the record's state and count
+-- the cells hold the record's state and count
+abbrev Alive : Primitives → Map → Machine → Type 0
+Alive prims map m = lifeCycleIn prims map (m .lent) ≡ Valid (m .session .state) (m .session .count)
+
+-- they do while the phase is Ready
 pub record Living (prims : Primitives) (map : Map) (m : Machine) : Type 0 where
-  pub holds : isReady (m .session .phase) ≡ true → lifeCycleIn prims map (m .lent) ≡ Valid (m .session .state) (m .session .count)
+  pub holds : isReady (m .session .phase) ≡ true → Alive prims map m
 
 -- a turn that leaves Ready
 abbrev stops : Turn → Type 0
@@ -73,26 +76,24 @@ turned-life die s = (refl, refl)
 -- what a transition from a living record comes to: nothing changed, a stroke spent, or a stroke spent and the state moved
 pub data Moved (prims : Primitives) (map : Map) (m : Machine) (target : ℕ) (r : Performed) : Type 0 where
   still : r .cells ≡ m .lent .cells → (codeOf (r .answer) ≡ 0x04 → ⊥) → Moved prims map m target r
-  spent : lifeCycleIn prims map (m .lent) ≡ Valid (m .session .state) (m .session .count) → m .session .count < 24
+  spent : Alive prims map m → m .session .count < 24
       → r .cells ≡ programCells (m .lent .cells) (counterAt prims map) (counterWords (m .lent .constants) (suc (m .session .count)))
       → stops (r .turn) → (codeOf (r .answer) ≡ 0x04 → ⊥) → Moved prims map m target r
-  reached : {token : Token} → lifeCycleIn prims map (m .lent) ≡ Valid (m .session .state) (m .session .count) → m .session .count < 24 → transition (m .session .state) target ≡ Allowed token
+  reached : {token : Token} → Alive prims map m → m .session .count < 24
+      → transition (m .session .state) target ≡ Allowed token
       → r .cells ≡ programCells (programCells (m .lent .cells) (counterAt prims map) (counterWords (m .lent .constants) (suc (m .session .count))))
       (stateAt prims map) (stateWords (m .lent .constants) target)
       → stops (r .turn) → (codeOf (r .answer) ≡ 0x04 → ⊥) → Moved prims map m target r
 
--- a code that is not 4
-not-four : {n : ℕ} → T (not (eqb n 0x04)) → n ≡ 0x04 → ⊥
-not-four {n} t e = T-not (eqb n 0x04) t (subst (λ (x : ℕ). T (eqb x 0x04)) (sym e) tt)
-
-noted : (prims : Primitives) (map : Map) (m : Machine) (target : ℕ) (b : Bool) (r : Performed) → Moved prims map m target r → Moved prims map m target (noting b r)
+noted : (prims : Primitives) (map : Map) (m : Machine) (target : ℕ) (b : Bool) (r : Performed) → Moved prims map m target r
+    → Moved prims map m target (noting b r)
 unfolding noting
 noted prims map m target b r (still e f) = still e f
 noted prims map m target b r (spent v l e s f) = spent v l e s f
 noted prims map m target b r (reached v l a e s f) = reached v l a e s f
 
 module _ (prims : Primitives) (map : Map) (F : fit map ≡ true) (m : Machine) (r : Right map m)
-    (live : lifeCycleIn prims map (m .lent) ≡ Valid (m .session .state) (m .session .count)) (room : m .session .count < 24) where
+    (live : Alive prims map m) (room : m .session .count < 24) where
   abbrev k : List ℕ
   k = m .lent .constants
 
@@ -114,25 +115,28 @@ module _ (prims : Primitives) (map : Map) (F : fit map ≡ true) (m : Machine) (
   state-stays : partAt cells₁ (stateAt prims map) 20 ≡ stateWords k (m .session .state)
   unfolding stateAt
   state-stays =
-      part-same cells₁ (m .lent .cells) _ 20 (λ j l u. program-elsewhere (m .lent .cells) counter (counterAt prims map) j (λ a b. omega (arith, counter-length k (suc (m .session .count)))))
+      let short = counter-length k (suc (m .session .count)) in
+      part-same cells₁ (m .lent .cells) _ 20 (λ j l u. program-elsewhere (m .lent .cells) counter (counterAt prims map) j (λ a b. omega (arith, short)))
       ∙ says .1
 
-  move-fits : (target : ℕ) {token : Token} → transition (m .session .state) target ≡ Allowed token → programAnswer cells₁ (stateAt prims map) (stateWords k target) ≡ programmed.Done
+  move-fits : (target : ℕ) {token : Token} → transition (m .session .state) target ≡ Allowed token
+      → programAnswer cells₁ (stateAt prims map) (stateWords k target) ≡ programmed.Done
   move-fits target a = transition-done k (r .valid) cells₁ (stateAt prims map) (m .session .state) target state-stays a
 
   module _ (target : ℕ) where
     abbrev Ok : Performed → Type 0
     Ok = Moved prims map m target
 
-    said : (answer : Answer) → T (not (eqb (codeOf answer) 0x04)) → Ok (perform (say answer halt) (m .lent .copy) cells₁)
+    said : (answer : Answer) → eqb (codeOf answer) 0x04 ≡ false → Ok (perform (say answer halt) (m .lent .copy) cells₁)
     unfolding perform
-    said answer t = spent live room refl halt-stops (not-four t)
+    said answer t = spent live room refl halt-stops (eqb-false _ _ t)
 
     move-ok : {token : Token} → transition (m .session .state) target ≡ Allowed token → Ok (perform (moveAct prims map m target) (m .lent .copy) cells₁)
     unfolding moveAct perform afterProgram
-    move-ok a = rw (move-fits target a) (reached live room a refl halt-stops (not-four tt))
+    move-ok a = rw (move-fits target a) (reached live room a refl halt-stops (eqb-false _ _ refl))
 
-    compared-ok : {token : Token} → transition (m .session .state) target ≡ Allowed token → (test : List ℕ → Bool) (answer : Answer) → T (not (eqb (codeOf answer) 0x04))
+    compared-ok : {token : Token} → transition (m .session .state) target ≡ Allowed token → (test : List ℕ → Bool) (answer : Answer)
+        → eqb (codeOf answer) 0x04 ≡ false
         → Ok (perform (compare test (moveAct prims map m target) (say answer halt)) (m .lent .copy) cells₁)
     unfolding perform
     compared-ok a test answer t = noted prims map m target _ _ (if-both Ok _ _ _ (λ e. move-ok a) (λ e. said answer t))
@@ -141,19 +145,20 @@ module _ (prims : Primitives) (map : Map) (F : fit map ≡ true) (m : Machine) (
         → Ok (perform (lockedTokenAct prims map m token target given) (m .lent .copy) cells₁)
     unfolding lockedTokenAct
     locked-ok token given a =
-        if-both (λ (x : Act). Ok (perform x (m .lent .copy) cells₁)) _ _ _ (λ e. said TokenNotLocked tt) (λ e. compared-ok a _ TokenDiffers tt)
+        if-both (λ (x : Act). Ok (perform x (m .lent .copy) cells₁)) _ _ _ (λ e. said TokenNotLocked refl) (λ e. compared-ok a _ TokenDiffers refl)
 
-    token-ok : (token : Token) (given : ℕ) → transition (m .session .state) target ≡ Allowed token → Ok (perform (tokenAct prims map m token target given) (m .lent .copy) cells₁)
+    token-ok : (token : Token) (given : ℕ) → transition (m .session .state) target ≡ Allowed token
+        → Ok (perform (tokenAct prims map m token target given) (m .lent .copy) cells₁)
     unfolding tokenAct
     token-ok Nothing given a = move-ok a
-    token-ok RawUnlock given a = compared-ok a _ TokenDiffers tt
+    token-ok RawUnlock given a = compared-ok a _ TokenDiffers refl
     token-ok TestUnlock given a = locked-ok TestUnlock given a
     token-ok TestExit given a = locked-ok TestExit given a
     token-ok Rma given a = locked-ok Rma given a
 
     entry-ok : (e : Entry) (given : ℕ) → transition (m .session .state) target ≡ e → Ok (perform (entryAct prims map m e target given) (m .lent .copy) cells₁)
     unfolding entryAct
-    entry-ok Forbidden given a = said NotInTable tt
+    entry-ok Forbidden given a = said NotInTable refl
     entry-ok (Allowed token) given a = token-ok token given a
 
     spend-ok : (given : ℕ) → Ok (perform (program (counterAt prims map) counter die (entryAct prims map m (transition (m .session .state) target) target given)) (m .lent .copy) (m .lent .cells))
@@ -165,8 +170,9 @@ module _ (prims : Primitives) (map : Map) (F : fit map ≡ true) where
       → Moved prims map m target (perform (readyAct prims map m (Transition target high low)) (m .lent .copy) (m .lent .cells))
   unfolding readyAct commandAct transitionAct perform
   transition-moves m r live target high low =
-      if-both Q _ _ _ (λ e. still refl (not-four tt)) λ ready. if-both Q _ _ _ (λ e. still refl (not-four tt)) λ e. if-both Q _ _ _ (λ e. still refl (not-four tt)) λ e. if-both Q _ _ _ (λ e. still refl (not-four tt))
-      λ room. spend-ok prims map F m r (live .holds (not-false _ ready)) (ltb-true _ _ (not-false _ room)) target (high * 2 ^ 64 + low)
+      if-both Q _ _ _ (λ e. still refl (eqb-false _ _ refl)) λ ready. if-both Q _ _ _ (λ e. still refl (eqb-false _ _ refl)) λ e.
+      if-both Q _ _ _ (λ e. still refl (eqb-false _ _ refl)) λ e. if-both Q _ _ _ (λ e. still refl (eqb-false _ _ refl)) λ room.
+      spend-ok prims map F m r (live .holds (not-false _ ready)) (ltb-true _ _ (not-false _ room)) target (high * 2 ^ 64 + low)
     where
       Q : Act → Type 0
       Q x = Moved prims map m target (perform x (m .lent .copy) (m .lent .cells))
@@ -179,38 +185,42 @@ module _ (prims : Primitives) (map : Map) (F : fit map ≡ true) where
   woken-living (some number) life l = λ e. absurd (true-not-false e refl)
   woken-living none Invalid l = λ e. absurd (true-not-false e refl)
   woken-living none (Valid state count) l =
-      if-both (λ (w : Waking). isReady (wokenSession prims map w l .phase) ≡ true → Valid state count ≡ Valid (wokenSession prims map w l .state) (wokenSession prims map w l .count))
-      _ _ _ (λ t e. absurd (true-not-false e refl)) (λ t e. refl)
+      if-both
+      (λ (w : Waking). let s = wokenSession prims map w l in isReady (s .phase) ≡ true → Valid state count ≡ Valid (s .state) (s .count)) _ _ _ (λ t e. absurd (true-not-false e refl)) (λ t e. refl)
 
-  -- what is decoded depends on the life cycle words alone
-  life-same : (c d copy copy′ t : List ℕ)
-      → ((j : ℕ) → counterAt prims map ≤ j → j < counterAt prims map + 44 → getD c j 0 ≡ getD d j 0)
-      → lifeCycleIn prims map (record { cells = c; copy = copy; constants = t }) ≡ lifeCycleIn prims map (record { cells = d; copy = copy′; constants = t })
-  unfolding lifeCycleIn stateAt
-  life-same c d copy copy′ t h =
-      ap₂ (λ (x y : List ℕ). decoded t x y) (part-same c d _ 24 (λ j lo hi. h j lo (omega arith))) (part-same c d _ 20 (λ j lo hi. h j (omega arith) (omega arith)))
-
-  up-life : (m : Machine) → lifeCycleIn prims map (powerUp prims map m .result .machine .lent) ≡ lifeCycleIn prims map (m .lent)
+  up-life : (m : Machine) → lifeCycleIn prims map (poweredUp prims map m .lent) ≡ lifeCycleIn prims map (m .lent)
   unfolding powerUp
-  up-life m = life-same (m .lent .cells) (m .lent .cells) _ (m .lent .copy) (m .lent .constants) (λ j l u. refl)
+  up-life m = life-same prims map F (m .lent .cells) (m .lent .cells) _ (m .lent .copy) (m .lent .constants) (λ j l u. refl)
 
-  up-living : (m : Machine) → Living prims map (powerUp prims map m .result .machine)
-  up-living m = record { holds = λ e. up-life m ∙ (unfold powerUp waking in (woken-living (verdictOf prims map (m .lent)) (lifeCycleIn prims map (m .lent)) (m .lent) e)) }
+  up-living : (m : Machine) → Living prims map (poweredUp prims map m)
+  up-living m =
+      let l = m .lent in
+      record { holds = λ e. up-life m ∙ (unfold powerUp waking in (woken-living (verdictOf prims map l) (lifeCycleIn prims map l) l e)) }
 
   -- a command that is no transition leaves the life cycle words
-  others-life : (x : Command) (m : Machine) → isTransition x ≡ false → lifeCycleIn prims map (act prims map x m .result .machine .lent) ≡ lifeCycleIn prims map (m .lent)
+  others-life : (x : Command) (m : Machine) → isTransition x ≡ false → lifeCycleIn prims map (acted prims map x m .lent) ≡ lifeCycleIn prims map (m .lent)
   unfolding act performed
   others-life x m n =
-      life-same _ (m .lent .cells) _ _ (m .lent .constants) (λ j lo hi. perform-frame (act-within prims map F m x) (m .lent .copy) (m .lent .cells) j (shut j lo hi))
+      life-same prims map F _ (m .lent .cells) _ _ (m .lent .constants)
+      (λ j lo hi. perform-frame (act-within prims map F m x) (m .lent .copy) (m .lent .cells) j (shut j lo hi))
     where
       shut : (j : ℕ) → counterAt prims map ≤ j → j < counterAt prims map + 44 → Open map x (m .session) j → ⊥
-      shut j lo hi (unlocked r d z) = true-not-false d (unfold partitionAt in (rw (life-words prims map F j lo hi) (life-cycle-partition map F .closed)))
+      shut j lo hi (unlocked r d z aim) = true-not-false d (life-closed prims map F j (life-words prims map F j lo hi))
       shut j lo hi (lifeCycle r t e) = true-not-false t n
 
   -- ---- one command more
 
   -- the cells after a stroke, and after a stroke and a state, decode to the next of the course
-  module _ (m : Machine) (r : Right map m) (live : lifeCycleIn prims map (m .lent) ≡ Valid (m .session .state) (m .session .count)) (room : m .session .count < 24) where
+  module _ (m : Machine) (r : Right map m) (live : Alive prims map m) (room : m .session .count < 24) where
+    abbrev t : List ℕ
+    t = m .lent .constants
+
+    abbrev strokes : List ℕ
+    strokes = counterWords t (suc (m .session .count))
+
+    abbrev c₁ : List ℕ
+    c₁ = cells₁ prims map F m r live room
+
     life-inside : counterAt prims map + 44 ≤ length (m .lent .cells)
     unfolding counterAt
     life-inside =
@@ -220,58 +230,67 @@ module _ (prims : Primitives) (map : Map) (F : fit map ≡ true) where
         let f = partition-fit map F known in
         omega (arith, cells-length prims map m r, p .words, p .last)
 
-    counter-held : partAt (cells₁ prims map F m r live room) (counterAt prims map) 24 ≡ counterWords (m .lent .constants) (suc (m .session .count))
+    counter-held : partAt c₁ (counterAt prims map) 24 ≡ strokes
     counter-held =
-        rw counter-length at
-        (program-takes (m .lent .cells) (counter prims map F m r live room) (counterAt prims map) (rw counter-length (omega (arith, life-inside))) (stroke-fits prims map F m r live room))
+        let inside : counterAt prims map + length strokes ≤ length (m .lent .cells) = rw counter-length (omega (arith, life-inside)) in
+        rw counter-length at (program-takes (m .lent .cells) strokes (counterAt prims map) inside (stroke-fits prims map F m r live room))
 
-    word-list : Words (m .lent .constants)
-    word-list = record { small = r .words }
-
-    spent-life : (copy : List ℕ) → lifeCycleIn prims map (record { cells = cells₁ prims map F m r live room; copy = copy; constants = m .lent .constants }) ≡ Valid (m .session .state) (suc (m .session .count))
+    -- what these words decode to
+    decodes : (cells copy : List ℕ) (state : ℕ) → state ≤ 20 → partAt cells (counterAt prims map) 24 ≡ strokes
+        → partAt cells (stateAt prims map) 20 ≡ stateWords t state
+        → lifeCycleIn prims map (record { cells = cells; copy = copy; constants = t }) ≡ Valid state (suc (m .session .count))
     unfolding lifeCycleIn
-    spent-life copy =
-        let d = decoded-says (m .lent .constants) _ _ _ _ live in
-        ap₂ (λ (x y : List ℕ). decoded (m .lent .constants) x y) counter-held (state-stays prims map F m r live room)
-        ∙ decoded-valid (m .lent .constants) word-list (r .valid) (m .session .state) (suc (m .session .count)) (d .2) room (λ z. absurd (omega arith))
+    decodes cells copy state l e f =
+        ap₂ (λ (x y : List ℕ). decoded t x y) e f
+        ∙ decoded-valid t (record { small = r .words }) (r .valid) state (suc (m .session .count)) l room (λ z. absurd (omega arith))
+
+    spent-life : (copy : List ℕ) → lifeCycleIn prims map (record { cells = c₁; copy = copy; constants = t }) ≡ Valid (m .session .state) (suc (m .session .count))
+    spent-life copy = decodes c₁ copy (m .session .state) known counter-held (state-stays prims map F m r live room)
+      where
+        known : m .session .state ≤ 20
+        known = unfold lifeCycleIn in (decoded-says t _ _ _ _ live .2)
 
     module _ (target : ℕ) {token : Token} (a : transition (m .session .state) target ≡ Allowed token) where
-      abbrev c₁ : List ℕ
-      c₁ = cells₁ prims map F m r live room
-
       abbrev ws : List ℕ
-      ws = stateWords (m .lent .constants) target
+      ws = stateWords t target
 
-      counter-still : partAt (programCells c₁ (stateAt prims map) ws) (counterAt prims map) 24 ≡ counterWords (m .lent .constants) (suc (m .session .count))
+      abbrev c₂ : List ℕ
+      c₂ = programCells c₁ (stateAt prims map) ws
+
+      counter-still : partAt c₂ (counterAt prims map) 24 ≡ strokes
       unfolding stateAt
       counter-still = part-same _ c₁ _ 24 (λ j lo hi. program-elsewhere c₁ ws (stateAt prims map) j (λ from upto. omega arith)) ∙ counter-held
 
-      state-held : partAt (programCells c₁ (stateAt prims map) ws) (stateAt prims map) 20 ≡ ws
+      state-held : partAt c₂ (stateAt prims map) 20 ≡ ws
       unfolding stateAt
       state-held =
-          let inside : stateAt prims map + length ws ≤ length c₁ = rw state-length (omega (arith, life-inside, program-length (m .lent .cells) (counter prims map F m r live room) (counterAt prims map))) in
+          let same = program-length (m .lent .cells) strokes (counterAt prims map) in
+          let inside : stateAt prims map + length ws ≤ length c₁ = rw state-length (omega (arith, life-inside, same)) in
           rw state-length at (program-takes c₁ ws (stateAt prims map) inside (move-fits prims map F m r live room target a))
 
-      moved-life : (copy : List ℕ) → lifeCycleIn prims map (record { cells = programCells c₁ (stateAt prims map) ws; copy = copy; constants = m .lent .constants }) ≡ Valid target (suc (m .session .count))
-      unfolding lifeCycleIn
-      moved-life copy =
-          ap₂ (λ (x y : List ℕ). decoded (m .lent .constants) x y) counter-still state-held
-          ∙ decoded-valid (m .lent .constants) word-list (r .valid) target (suc (m .session .count)) (allowed-ends (m .session .state) target a .within) room (λ z. absurd (omega arith))
+      moved-life : (copy : List ℕ) → lifeCycleIn prims map (record { cells = c₂; copy = copy; constants = t }) ≡ Valid target (suc (m .session .count))
+      moved-life copy = decodes c₂ copy target (allowed-ends (m .session .state) target a .within) counter-still state-held
 
   -- what one command makes of a living machine
   pub record Goes (m : Machine) (s : Step) : Type 0 where
     pub course : Course (lifeCycleIn prims map (m .lent)) (lifeCycleIn prims map (s .result .machine .lent))
     pub living : Living prims map (s .result .machine)
 
-  same-goes : (m : Machine) (s : Step) → lifeCycleIn prims map (s .result .machine .lent) ≡ lifeCycleIn prims map (m .lent) → Living prims map (s .result .machine) → Goes m s
+  same-goes : (m : Machine) (s : Step) → lifeCycleIn prims map (s .result .machine .lent) ≡ lifeCycleIn prims map (m .lent)
+      → Living prims map (s .result .machine) → Goes m s
   same-goes m s e l = record { course = rw e stays; living = l }
 
-  others-go : (x : Command) (m : Machine) → isTransition x ≡ false → Living prims map m → Goes m (act prims map x m)
-  others-go x m n live = same-goes m (act prims map x m) (others-life x m n) (record { holds = λ e. others-life x m n ∙ kept e })
+  -- an act that leaves the life cycle words
+  act-stays : (x : Command) (m : Machine) → Living prims map m → lifeCycleIn prims map (acted prims map x m .lent) ≡ lifeCycleIn prims map (m .lent)
+      → Goes m (act prims map x m)
+  act-stays x m live same = same-goes m (act prims map x m) same (record { holds = λ e. same ∙ kept e })
     where
-      kept : isReady (act prims map x m .result .machine .session .phase) ≡ true
-          → lifeCycleIn prims map (m .lent) ≡ Valid (act prims map x m .result .machine .session .state) (act prims map x m .result .machine .session .count)
+      kept : isReady (acted prims map x m .session .phase) ≡ true
+          → lifeCycleIn prims map (m .lent) ≡ Valid (acted prims map x m .session .state) (acted prims map x m .session .count)
       kept = unfold act performed in (λ e. rw (turned-life _ _ .0, turned-life _ _ .1) (live .holds (turned-ready _ (m .session) e)))
+
+  others-go : (x : Command) (m : Machine) → isTransition x ≡ false → Living prims map m → Goes m (act prims map x m)
+  others-go x m n live = act-stays x m live (others-life x m n)
 
   transition-goes : (m : Machine) → Right map m → Living prims map m → (target high low : ℕ) → Goes m (act prims map (Transition target high low) m)
   transition-goes m r live target high low = go (transition-moves m r live target high low)
@@ -283,20 +302,14 @@ module _ (prims : Primitives) (map : Map) (F : fit map ≡ true) where
       outcome = perform (readyAct prims map m x) (m .lent .copy) (m .lent .cells)
 
       -- a turn that leaves Ready leaves nothing to hold
-      stopped : stops (outcome .turn) → Living prims map (act prims map x m .result .machine)
+      stopped : stops (outcome .turn) → Living prims map (acted prims map x m)
       stopped h = record { holds = unfold act performed in (λ e. absurd (h (m .session) e)) }
 
-      lent-is : (c : List ℕ) → outcome .cells ≡ c → act prims map x m .result .machine .lent ≡ record { cells = c; copy = m .lent .copy; constants = m .lent .constants }
+      lent-is : (c : List ℕ) → outcome .cells ≡ c → acted prims map x m .lent ≡ record { cells = c; copy = m .lent .copy; constants = m .lent .constants }
       lent-is c e = unfold act performed in (rw e)
 
       go : Moved prims map m target outcome → Goes m (act prims map x m)
-      go (still e f) =
-          let same : lifeCycleIn prims map (act prims map x m .result .machine .lent) ≡ lifeCycleIn prims map (m .lent) = ap (lifeCycleIn prims map) (lent-is (m .lent .cells) e) in
-          same-goes m (act prims map x m) same (record { holds = λ q. same ∙ kept q })
-        where
-          kept : isReady (act prims map x m .result .machine .session .phase) ≡ true
-              → lifeCycleIn prims map (m .lent) ≡ Valid (act prims map x m .result .machine .session .state) (act prims map x m .result .machine .session .count)
-          kept = unfold act performed in (λ q. rw (turned-life _ _ .0, turned-life _ _ .1) (live .holds (turned-ready _ (m .session) q)))
+      go (still e f) = act-stays x m live (ap (lifeCycleIn prims map) (lent-is (m .lent .cells) e))
       go (spent v l e h f) =
           let q = ap (lifeCycleIn prims map) (lent-is _ e) ∙ spent-life m r v l (m .lent .copy) in
           record { course = rw (q, v) (spends stays); living = stopped h }
@@ -320,7 +333,8 @@ module _ (prims : Primitives) (map : Map) (F : fit map ≡ true) where
 
   step-goes : (x : Command) (m : Machine) → Right map m → Living prims map m → Goes m (step prims map x m)
   step-goes x m r live =
-      step-all prims map (Goes m) x m (λ answer. unchanged-goes answer m live) (same-goes m (powerUp prims map m) (up-life m) (up-living m)) (act-goes x m r live)
+      step-all prims map (Goes m) x m (λ answer. unchanged-goes answer m live) (same-goes m (powerUp prims map m) (up-life m) (up-living m))
+      (act-goes x m r live)
 
   course-trans : {x y z : LifeCycle} → Course x y → Course y z → Course x z
   course-trans f stays = f
@@ -333,36 +347,39 @@ module _ (prims : Primitives) (map : Map) (F : fit map ≡ true) where
   after-goes [] m r live = (stays, live)
   after-goes (x ∷ l) m r live =
       let s = step-goes x m r live in
-      let t = after-goes l (step prims map x m .result .machine) (step-right prims map x m r) (s .living) in
+      let t = after-goes l (machineAfter prims map x m) (step-right prims map x m r) (s .living) in
       (course-trans (s .course) (t .0), t .1)
 
   -- ---- the theorems
 
-  first-living : (m : Machine) → Right map m → Living prims map (step prims map PowerUp m .result .machine)
-  first-living m r = rw (step-up prims map m r) (up-living m)
+  first-living : (m : Machine) → Right map m → Living prims map (machineAfter prims map PowerUp m)
+  first-living m r = rw (step-up prims map m r, machineAfter) (up-living m)
 
   pub since-living : (m : Machine) → Right map m → (l : List Command) → Living prims map (after prims map (PowerUp ∷ l) m)
   unfolding after
-  since-living m r l = after-goes l (step prims map PowerUp m .result .machine) (step-right prims map PowerUp m r) (first-living m r) .1
+  since-living m r l = after-goes l (machineAfter prims map PowerUp m) (step-right prims map PowerUp m r) (first-living m r) .1
 
   moved-not-four : (m : Machine) (target : ℕ) {p : Performed} → Moved prims map m target p → codeOf (p .answer) ≡ 0x04 → ⊥
   moved-not-four m target (still e f) = f
   moved-not-four m target (spent v l e h f) = f
   moved-not-four m target (reached v l a e h f) = f
 
-  living-not-four : (m : Machine) → Right map m → Living prims map m → (target high low : ℕ) → codeOf (step prims map (Transition target high low) m .result .answer) ≡ 0x04 → ⊥
+  living-not-four : (m : Machine) → Right map m → Living prims map m → (target high low : ℕ)
+      → codeOf (answerTo prims map (Transition target high low) m) ≡ 0x04 → ⊥
   unfolding obey act performed
-  living-not-four m r live target high low = rw (step-obeys prims map (Transition target high low) m r) (moved-not-four m target (transition-moves m r live target high low))
+  living-not-four m r live target high low =
+      rw (step-obeys prims map (Transition target high low) m r, answerTo) (moved-not-four m target (transition-moves m r live target high low))
 
   pub never-four : (m : Machine) → Right map m → (l : List Command) (target high low : ℕ)
-      → codeOf (step prims map (Transition target high low) (after prims map (PowerUp ∷ l) m) .result .answer) ≡ 0x04 → ⊥
+      → codeOf (answerTo prims map (Transition target high low) (after prims map (PowerUp ∷ l) m)) ≡ 0x04 → ⊥
   never-four m r l target high low =
       living-not-four (after prims map (PowerUp ∷ l) m) (after-right prims map (PowerUp ∷ l) m r) (since-living m r l) target high low
 
   pub courses-run : (m : Machine) → Right map m → (l₁ l₂ : List Command)
       → Course (lifeCycleIn prims map (after prims map (PowerUp ∷ l₁) m .lent)) (lifeCycleIn prims map (after prims map (PowerUp ∷ l₁ ++ l₂) m .lent))
   courses-run m r l₁ l₂ =
-      rw (after-append prims map (PowerUp ∷ l₁) l₂ m) (after-goes l₂ (after prims map (PowerUp ∷ l₁) m) (after-right prims map (PowerUp ∷ l₁) m r) (since-living m r l₁) .0)
+      let m₁ = after prims map (PowerUp ∷ l₁) m in
+      rw (after-append prims map (PowerUp ∷ l₁) l₂ m) (after-goes l₂ m₁ (after-right prims map (PowerUp ∷ l₁) m r) (since-living m r l₁) .0)
 
 -- a course never spends less
 course-count : {x y : LifeCycle} → Course x y → (s n t k : ℕ) → x ≡ Valid s n → y ≡ Valid t k → n ≤ k

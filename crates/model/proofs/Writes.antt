@@ -1,81 +1,58 @@
--- A write that the rules allow takes effect and reads back. The idea: on a fresh chip the guards pass and the granule is programmed; while Ready
--- lasts only a write to that granule that answers 0 changes its words; and a read of them unscrambles what was scrambled.
+-- A write that the rules allow takes effect and reads back. The idea: on a fresh chip the guards pass and the granule is programmed; only a write to
+-- that granule that answers 0 changes its words, whatever else comes; and a read of them unscrambles what was scrambled.
 use mathlib.Core.Path.{_≡_, refl, sym, ap, ap₂, _∙_}
-use mathlib.Core.Bool.{Bool, true, false, not, _&&_}
+use mathlib.Core.Bool.{true, false, not, _&&_}
 use mathlib.Core.List.{List, [], _∷_}
-use Prim.Native.Nat.{ℕ, _+_, _*_, _/_, _^_, _≤_, _<_}
-use native.Mathlib.Nat.{mod-eq-of-lt}
+use Prim.Native.Nat.{ℕ, _+_, _*_, _^_, _≤_, _<_}
 use native.Mathlib.Omega.{arith}
-use lib.Dec.{ltb, lit<}
-use lib.ListN.{getD, List·getD-eq-default}
-use borrow.Author.Tests.{leb-false, lt-leb, eq-eqb, ltb-true, ltb-false, not-false}
-use Rattle.basics.specs.Range.{listed}
-use Rattle.basics.proofs.Choice.{by-cases, true-not-false, not-passed, and-both, if-true, if-false, if-both}
-use Rattle.basics.proofs.Range.{listed-from, length-listed}
-use Rattle.words.specs.declared.Programmed.the-variants as programmed
+use lib.Dec.{lit<}
+use lib.ListN.{getD}
+use borrow.Author.Tests.{leb-false, lt-leb, eq-eqb}
+use Rattle.basics.proofs.Choice.{by-cases, true-not-false, not-passed, and-both, and-false, if-true, if-false, if-both}
 use Rattle.words.specs.Words.{numberOf, wordsOf, partAt}
 use Rattle.words.specs.Programming.{programAnswer, programCells}
-use Rattle.words.proofs.Words.{Words, length-words, number-lt, number-words}
-use Rattle.words.proofs.Parts.{part-same, length-part}
+use Rattle.words.proofs.Words.{length-words, number-block}
+use Rattle.words.proofs.Parts.{part-number-lt, part-same}
 use Rattle.words.proofs.Programming.{program-elsewhere, program-takes}
 use Rattle.partitions.specs.declared.Kind.{Kind}
 use Rattle.partitions.specs.declared.Kind.the-variants as kind
 use Rattle.partitions.specs.declared.Partition.{Partition}
 use Rattle.partitions.specs.Fitness.{fit}
-use Rattle.partitions.proofs.KindRights.{hardware-direct, scrambled-hardware}
+use Rattle.partitions.proofs.KindRights.{soft-plain}
 use Rattle.partitions.proofs.Map.{inside}
-use Rattle.partitions.proofs.Granules.{OneGranule, scrambled-words, granule-inside, granule-within, word-inside, word-number, shared-word, digest-word}
+use Rattle.partitions.proofs.Granules.{OneGranule, scrambled-words, granule-inside, granule-within, word-inside, word-number, shared-word}
 use Rattle.partitions.specs.Map.{Map, rightsOf, numberAt, partitionAt, limit, inDigest, firstWord, wordCount}
 use Rattle.model.specs.declared.Answer.the-variants.{Done}
 use Rattle.model.specs.declared.Command.{Command}
 use Rattle.model.specs.declared.Command.the-variants.{Read, Write, FrontRead, Digest, ReadLock, Transition, PowerUp}
-use Rattle.model.specs.Answers.{codeOf}
+use Rattle.model.specs.Answers.{codeOf, valueOf}
 use Rattle.model.specs.Session.{sensedLocked, readLocked}
 use Rattle.model.specs.Lent.{Machine, Primitives, keyOf}
 use Rattle.model.specs.Acts.{stay, Act, say, Performed, afterProgram, perform}
-use Rattle.model.specs.Commands.{granule, storedDigest, scrambled, unscrambled, writeAct, readAct, frontReadAct, digestAct, readLockAct, commandAct, readyAct}
-use Rattle.model.specs.Step.{Step, performed, act, step, after}
-use Rattle.model.specs.Terms.{Right, Cipher, Digested, staysReady, spares, storedWords, usedValue, Lasts, Spared, Allowed, TakesEffect}
-use Rattle.model.proofs.Acts.{after-both, Within, says, programs, within-if, perform-frame}
-use Rattle.model.proofs.Steps.{cells-length, step-right, after-right, step-constants, after-constants}
-use Rattle.model.proofs.Ready.{unmoved, step-act, Fresh, first-fresh, step-fresh, after-fresh}
+use Rattle.model.specs.Commands.{granule, storedDigest, scrambled, unscrambled, writeAct, readAct, commandAct, readyAct}
+use Rattle.model.specs.Step.{Step, unchanged, performed, act, powerUp, step, after, machineAfter, answerTo}
+use Rattle.model.specs.Terms.{Right, Cipher, Digested, spares, storedWords, usedValue, Lasts, Spared, Allowed, TakesEffect}
+use Rattle.model.specs.Demand3.{Ready}
+use Rattle.model.proofs.Acts.{after-both, perform-frame, not-done}
+use Rattle.model.proofs.Frame.{Sealed, Aim, Open, unlocked, lifeCycle, life-closed, act-within}
+use Rattle.model.proofs.Steps.{outcome, step-all, cells-length, step-right, after-right, step-constants, after-constants}
+use Rattle.model.proofs.Ready.{step-act, Fresh, first-fresh, step-fresh, after-fresh}
 
 -- ---- keys fit, so scrambling can be undone
-
-part-small : (c : List ℕ) (at n : ℕ) → ((i : ℕ) → getD c i 0 < 65536) → Words (partAt c at n)
-unfolding partAt
-part-small c at n h = record { small = λ i. by-cases (ltb i n) (here i) (past i) }
-  where
-    here : (i : ℕ) → ltb i n ≡ true → getD (listed (λ j. getD c j 0) at n) i 0 < 65536
-    here i t = rw (listed-from (λ j. getD c j 0) 0 at n i (ltb-true _ _ t)) (h (at + i))
-
-    past : (i : ℕ) → ltb i n ≡ false → getD (listed (λ j. getD c j 0) at n) i 0 < 65536
-    past i t = rw (List·getD-eq-default (listed (λ j. getD c j 0) at n) 0 {n = i} (rw (length-listed (λ j. getD c j 0) at n) (ltb-false _ _ t))) (lit< tt)
-
-eight-words : (c : List ℕ) (at : ℕ) → ((i : ℕ) → getD c i 0 < 65536) → numberOf (partAt c at 8) < 2 ^ 128
-eight-words c at h = rw length-part at (number-lt (partAt c at 8) (part-small c at 8 h))
 
 key-fits : (c : List ℕ) (k : Kind) → ((i : ℕ) → getD c i 0 < 65536) → keyOf c k < 2 ^ 128
 unfolding keyOf
 key-fits c kind.Software h = lit< tt
 key-fits c kind.HwCfg h = lit< tt
-key-fits c kind.Secret0 h = eight-words c 0 h
-key-fits c kind.Secret1 h = eight-words c 8 h
-key-fits c kind.Secret2 h = eight-words c 16 h
+key-fits c kind.Secret0 h = part-number-lt (record { small = h }) 0 8
+key-fits c kind.Secret1 h = part-number-lt (record { small = h }) 8 8
+key-fits c kind.Secret2 h = part-number-lt (record { small = h }) 16 8
 key-fits c kind.LifeCycle h = lit< tt
 
 module _ (prims : Primitives) (C : Cipher prims) (map : Map) (F : fit map ≡ true) where
   -- a scrambled granule is a block
   block-words : (a : ℕ) → a < limit map → rightsOf (partitionAt map a .kind) .scrambled ≡ true → wordCount (partitionAt map a) a ≡ 4
   block-words a l t = scrambled-words (inside map F l .fits) t a
-
-  -- where there is no hardware digest data is plain
-  plain-kind : (k : Kind) → rightsOf k .hardware ≡ false → rightsOf k .scrambled ≡ false
-  plain-kind k e = not-passed _ (λ t. true-not-false (scrambled-hardware k t) e)
-
-  -- four words hold a block
-  block-back : (x : ℕ) → x < 2 ^ 64 → numberOf (wordsOf 4 x) ≡ x
-  block-back x h = number-words 4 x ∙ mod-eq-of-lt h
 
   -- what is read of the words that a write stored
   read-stored : (constants : List ℕ) → ((i : ℕ) → getD constants i 0 < 65536) → (a value : ℕ) → a < limit map → value < 2 ^ 64
@@ -88,7 +65,7 @@ module _ (prims : Primitives) (C : Cipher prims) (map : Map) (F : fit map ≡ tr
       by-cases (rightsOf (p .kind) .scrambled)
       (λ t. rw (t, block-words a l t) (if-true _ _ refl
       ∙ ap (λ (x : ℕ). prims .decrypt key (numberOf (wordsOf 4 x))) (if-true (prims .encrypt key value) value refl)
-      ∙ ap (prims .decrypt key) (block-back (prims .encrypt key value) (C .fits key value fits v)) ∙ C .back key value fits v ∙ sym (block-back value v)))
+      ∙ ap (prims .decrypt key) (number-block (prims .encrypt key value) (C .fits key value fits v)) ∙ C .back key value fits v ∙ sym (number-block value v)))
       (λ t. rw t (if-false _ _ refl ∙ ap (λ (x : ℕ). numberOf (wordsOf (wordCount p a) x)) (if-false (prims .encrypt key value) value refl)))
 
   -- ---- it takes effect
@@ -102,13 +79,6 @@ module _ (prims : Primitives) (C : Cipher prims) (map : Map) (F : fit map ≡ tr
   unfolding sensedLocked partitionAt
   not-sensed c₀ m f a l d z = rw (eq-eqb _ 0 (f .felt (numberAt map a) (direct-known a l d) ∙ z))
 
-  is-not : {b : Bool} → b ≡ true → not b ≡ false
-  is-not e = rw e
-
-  and-no : (a : Bool) {b : Bool} → b ≡ false → (a && b) ≡ false
-  and-no true e = e
-  and-no false e = refl
-
   -- where the guards pass and no word refuses, the granule is programmed
   write-performed : (c₀ : List ℕ) (m : Machine) → Fresh map c₀ m → (a value : ℕ) → Allowed prims map (m .lent .constants) c₀ (m .lent .cells) a value
       → perform (readyAct prims map m (Write a value)) (m .lent .copy) (m .lent .cells)
@@ -121,7 +91,7 @@ module _ (prims : Primitives) (C : Cipher prims) (map : Map) (F : fit map ≡ tr
   unfolding readyAct commandAct writeAct perform afterProgram
   write-performed c₀ m f a value al =
       ap (λ (x : Act). perform x (m .lent .copy) (m .lent .cells))
-      (if-false _ _ (is-not (f .awake)) ∙ if-false _ _ (lt-leb _ _ (al .below)) ∙ if-false _ _ (is-not (al .direct)) ∙ if-false _ _ (al .notDigest)
+      (if-false _ _ (ap not (f .awake)) ∙ if-false _ _ (lt-leb _ _ (al .below)) ∙ if-false _ _ (ap not (al .direct)) ∙ if-false _ _ (al .notDigest)
       ∙ if-false _ _ (not-sensed c₀ m f a (al .below) (al .direct) (al .unlocked)))
       ∙ rw (al .keeps)
 
@@ -139,14 +109,11 @@ module _ (prims : Primitives) (C : Cipher prims) (map : Map) (F : fit map ≡ tr
       vs = storedWords prims map (m .lent .constants) a value
 
       held : partAt (programCells (m .lent .cells) i vs) i (wordCount (partitionAt map a) a) ≡ vs
-      held = rw length-words at (program-takes (m .lent .cells) vs i (rw length-words (omega (arith, granule-within map F (al .below), cells-length prims map m (f .right)))) (al .keeps))
+      held =
+          let inside = granule-within map F (al .below) in
+          rw length-words at (program-takes (m .lent .cells) vs i (rw length-words (omega (arith, inside, cells-length prims map m (f .right)))) (al .keeps))
 
   -- ---- what leaves the granule alone
-
-  -- a word of a hardware digest
-  record Sealed (j : ℕ) : Type 0 where
-    hard : rightsOf (partitionAt map (2 * j) .kind) .hardware ≡ true
-    high : inDigest (partitionAt map (2 * j)) (2 * j) ≡ true
 
   -- a write either programs its granule and answers 0, or changes nothing
   data Wrote (m : Machine) (a value : ℕ) (r : Performed) : Type 0 where
@@ -154,82 +121,72 @@ module _ (prims : Primitives) (C : Cipher prims) (map : Map) (F : fit map ≡ tr
         → r .cells ≡ programCells (m .lent .cells) (firstWord (partitionAt map a) a) (storedWords prims map (m .lent .constants) a value) → Wrote m a value r
     left : r .cells ≡ m .lent .cells → Wrote m a value r
 
-  written : (m : Machine) (a value : ℕ) → Wrote m a value (perform (readyAct prims map m (Write a value)) (m .lent .copy) (m .lent .cells))
+  written : (m : Machine) (a value : ℕ) → Wrote m a value (outcome prims map (Write a value) m)
   unfolding readyAct commandAct writeAct perform
   written m a value =
-      if-both Q _ _ _ (λ t. left refl) λ t. if-both Q _ _ _ (λ t. left refl) λ l. if-both Q _ _ _ (λ t. left refl) λ t. if-both Q _ _ _ (λ t. left refl) λ t. if-both Q _ _ _ (λ t. left refl) λ t.
+      if-both Q _ _ _ (λ t. left refl) λ t. if-both Q _ _ _ (λ t. left refl) λ l. if-both Q _ _ _ (λ t. left refl) λ t.
+      if-both Q _ _ _ (λ t. left refl) λ t. if-both Q _ _ _ (λ t. left refl) λ t.
       after-both (Wrote m a value) (programAnswer (m .lent .cells) _ _) _ _ (λ e. wrote (leb-false _ _ l) refl refl) (λ cell e. left refl)
     where
       Q : Act → Type 0
       Q x = Wrote m a value (perform x (m .lent .copy) (m .lent .cells))
 
-  none-programmed : (m : Machine) (a : ℕ)
-      → Within (λ j. ⊥) (readyAct prims map m (Read a)) × Within (λ j. ⊥) (readyAct prims map m (FrontRead a)) × Within (λ j. ⊥) (readyAct prims map m (ReadLock a))
-  unfolding readyAct commandAct readAct frontReadAct readLockAct
-  none-programmed m a = (
-    within-if (λ t. says) λ t. within-if (λ t. says) λ t. within-if (λ t. says) λ t. within-if (λ t. says) λ t. within-if (λ t. says) λ t. within-if (λ t. says) λ t. says,
-    within-if (λ t. says) λ t. within-if (λ t. says) λ t. within-if (λ t. says) λ t. within-if (λ t. says) λ t. says,
-    within-if (λ t. says) λ t. within-if (λ t. says) λ t. says,
-  )
-
-  seal : (a j : ℕ) → a < limit map → rightsOf (partitionAt map a .kind) .hardware ≡ true
-      → partitionAt map a .digest / 2 ≤ j → j < partitionAt map a .digest / 2 + 4 → Sealed j
-  unfolding partitionAt
-  seal a j l h lo hi =
-      let e = digest-word map F (inside map F l .known) (hardware-direct _ h) lo hi in
-      record { hard = rw (e .0) h; high = rw (e .0) (e .1) }
-
-  digest-sealed : (m : Machine) (a : ℕ) → Within Sealed (readyAct prims map m (Digest a))
-  unfolding readyAct commandAct digestAct
-  digest-sealed m a =
-      within-if (λ t. says) λ t. within-if (λ t. says) λ l. within-if (λ t. says) λ h. within-if (λ t. says) λ t. within-if (λ t. says) λ t.
-      programs (λ j lo hi. seal a j (leb-false _ _ l) (not-false _ h) lo (rw length-words at hi)) says
-
-  module _ (a : ℕ) (below : a < limit map) (open? : (rightsOf (partitionAt map a .kind) .hardware && inDigest (partitionAt map a) a) ≡ false) where
+  module _ (a : ℕ) (below : a < limit map) (direct : rightsOf (partitionAt map a .kind) .direct ≡ true)
+      (open? : (rightsOf (partitionAt map a .kind) .hardware && inDigest (partitionAt map a) a) ≡ false) where
     abbrev first : ℕ
     first = firstWord (partitionAt map a) a
 
     abbrev count : ℕ
     count = wordCount (partitionAt map a) a
 
-    not-sealed : (j : ℕ) → first ≤ j → j < first + count → Sealed j → ⊥
+    -- a word of the granule is in no hardware digest
+    not-sealed : (j : ℕ) → first ≤ j → j < first + count → Sealed map j → ⊥
     unfolding partitionAt
     not-sealed j lo hi k =
         let e = word-number map F below lo hi in
         true-not-false (and-both _ _ (rw e at (k .hard)) (sym (word-inside map F below lo hi .side) ∙ (rw e at (k .high)))) open?
 
-    quiet : (x : Command) (m : Machine)
-        → staysReady x (perform (readyAct prims map m x) (m .lent .copy) (m .lent .cells) .answer)
-        → spares map a x (perform (readyAct prims map m x) (m .lent .copy) (m .lent .cells) .answer)
-        → (j : ℕ) → first ≤ j → j < first + count → getD (perform (readyAct prims map m x) (m .lent .copy) (m .lent .cells) .cells) j 0 ≡ getD (m .lent .cells) j 0
-    quiet (Write b value) m st sp j lo hi = go (written m b value)
+    -- and no life cycle word, so that only its aim lets a command change it
+    aimless : (x : Command) (m : Machine) (j : ℕ) → first ≤ j → j < first + count → (Aim map x j → ⊥)
+        → getD (outcome prims map x m .cells) j 0 ≡ getD (m .lent .cells) j 0
+    aimless x m j lo hi n = perform-frame (act-within prims map F m x) (m .lent .copy) (m .lent .cells) j shut
       where
-        go : Wrote m b value (perform (readyAct prims map m (Write b value)) (m .lent .copy) (m .lent .cells))
-            → getD (perform (readyAct prims map m (Write b value)) (m .lent .copy) (m .lent .cells) .cells) j 0 ≡ getD (m .lent .cells) j 0
+        open-word : rightsOf (partitionAt map (2 * j) .kind) .direct ≡ true
+        open-word = unfold partitionAt in (rw (word-number map F below lo hi) direct)
+
+        shut : Open map x (m .session) j → ⊥
+        shut (unlocked r d z aim) = n aim
+        shut (lifeCycle r t e) = true-not-false open-word (life-closed prims map F j e)
+
+    word-stays : (x : Command) (m : Machine) → spares map a x (outcome prims map x m .answer) → (j : ℕ) → first ≤ j → j < first + count
+        → getD (outcome prims map x m .cells) j 0 ≡ getD (m .lent .cells) j 0
+    word-stays (Write b value) m sp j lo hi = go (written m b value)
+      where
+        go : Wrote m b value (outcome prims map (Write b value) m) → getD (outcome prims map (Write b value) m .cells) j 0 ≡ getD (m .lent .cells) j 0
         go (left e) = rw e
-        go (wrote l e f) = rw f (program-elsewhere (m .lent .cells) _ _ j (λ lo′ hi′. sp (shared-word map F l below lo′ (rw length-words at hi′) lo hi .first) e))
-    quiet (Read b) m st sp j lo hi = perform-frame (none-programmed m b .0) (m .lent .copy) (m .lent .cells) j (λ z. z)
-    quiet (FrontRead b) m st sp j lo hi = perform-frame (none-programmed m b .1) (m .lent .copy) (m .lent .cells) j (λ z. z)
-    quiet (Digest b) m st sp j lo hi = perform-frame (digest-sealed m b) (m .lent .copy) (m .lent .cells) j (not-sealed j lo hi)
-    quiet (ReadLock number) m st sp j lo hi = perform-frame (none-programmed m number .2) (m .lent .copy) (m .lent .cells) j (λ z. z)
-    quiet (Transition target high low) m st sp j lo hi = rw (unmoved prims map m target high low st)
-    quiet PowerUp m st sp j lo hi = absurd st
+        go (wrote l e f) =
+            rw f (program-elsewhere (m .lent .cells) _ _ j (λ lo′ hi′. sp (shared-word map F l below lo′ (rw length-words at hi′) lo hi .first) e))
+    word-stays (Digest b) m sp j lo hi = aimless (Digest b) m j lo hi (not-sealed j lo hi)
+    word-stays (Read b) m sp j lo hi = aimless (Read b) m j lo hi (λ z. z)
+    word-stays (FrontRead b) m sp j lo hi = aimless (FrontRead b) m j lo hi (λ z. z)
+    word-stays (ReadLock number) m sp j lo hi = aimless (ReadLock number) m j lo hi (λ z. z)
+    word-stays (Transition target high low) m sp j lo hi = aimless (Transition target high low) m j lo hi (λ z. z)
+    word-stays PowerUp m sp j lo hi = aimless PowerUp m j lo hi (λ z. z)
 
-    act-quiet : (x : Command) (m : Machine) → staysReady x (act prims map x m .result .answer) → spares map a x (act prims map x m .result .answer)
-        → partAt (act prims map x m .result .machine .lent .cells) first count ≡ partAt (m .lent .cells) first count
-    unfolding act performed
-    act-quiet x m st sp = part-same _ (m .lent .cells) first count (quiet x m st sp)
+    step-stays : (x : Command) (m : Machine) → spares map a x (answerTo prims map x m)
+        → partAt (machineAfter prims map x m .lent .cells) first count ≡ partAt (m .lent .cells) first count
+    unfolding unchanged powerUp act performed
+    step-stays x m =
+        step-all prims map
+        (λ (s : Step). spares map a x (s .result .answer) → partAt (s .result .machine .lent .cells) first count ≡ partAt (m .lent .cells) first count) x m
+        (λ answer sp. refl) (λ sp. refl) (λ sp. part-same _ (m .lent .cells) first count (word-stays x m sp))
 
-    step-quiet : (x : Command) (m : Machine) → Right map m → staysReady x (step prims map x m .result .answer) → spares map a x (step prims map x m .result .answer)
-        → partAt (step prims map x m .result .machine .lent .cells) first count ≡ partAt (m .lent .cells) first count
-    step-quiet x m r st sp = let e = step-act prims map x m r st in rw e (act-quiet x m (rw e at st) (rw e at sp))
-
-    -- while Ready lasts and no write to the granule answers 0, its words stay
-    after-quiet : (l : List Command) (m : Machine) → Right map m → Lasts prims map l m → Spared prims map a l m
+    -- while no write to the granule answers 0, its words stay, through power-ups and transitions too
+    after-stays : (l : List Command) (m : Machine) → Spared prims map a l m
         → partAt (after prims map l m .lent .cells) first count ≡ partAt (m .lent .cells) first count
-    unfolding Lasts Spared after
-    after-quiet [] m r st sp = refl
-    after-quiet (x ∷ l) m r st sp = after-quiet l (step prims map x m .result .machine) (step-right prims map x m r) (st .1) (sp .1) ∙ step-quiet x m r (st .0) (sp .0)
+    unfolding Spared after
+    after-stays [] m sp = refl
+    after-stays (x ∷ l) m sp = after-stays l (machineAfter prims map x m) (sp .1) ∙ step-stays x m (sp .0)
 
     -- ---- it reads back
 
@@ -253,98 +210,127 @@ module _ (prims : Primitives) (C : Cipher prims) (map : Map) (F : fit map ≡ tr
           let f = word-inside map F below {j = first} (omega arith) (omega arith) .side in
           sym e ∙ ap (λ (p : Partition). inDigest p (2 * first)) same-partition ∙ f
 
-      -- what the granule holds, and what is read of it
-      granule-is : (m : Machine) (value : ℕ) → partAt (m .lent .cells) first count ≡ storedWords prims map (m .lent .constants) a value
-          → granule (partitionAt map b) (m .lent .cells) b ≡ numberOf (storedWords prims map (m .lent .constants) a value)
-      unfolding granule
-      granule-is m value e = ap numberOf (ap₂ (λ (i n : ℕ). partAt (m .lent .cells) i n) (one .first) (one .count) ∙ e)
+      -- the granule holds the words of the value; what is read of it
+      module _ (m : Machine) (r : Right map m) (value : ℕ) (v : value < 2 ^ 64)
+          (held : partAt (m .lent .cells) first count ≡ storedWords prims map (m .lent .constants) a value) where
+        abbrev p : Partition
+        p = partitionAt map b
 
-      data-is : (m : Machine) (value : ℕ) → Right map m → value < 2 ^ 64 → partAt (m .lent .cells) first count ≡ storedWords prims map (m .lent .constants) a value
-          → unscrambled prims map (m .lent .constants) (partitionAt map b) (granule (partitionAt map b) (m .lent .cells) b) ≡ usedValue map a value
-      data-is m value r v e =
-          ap₂ (λ (p : Partition) (x : ℕ). unscrambled prims map (m .lent .constants) p x) same-partition (granule-is m value e)
-          ∙ read-stored (m .lent .constants) (r .words) a value below v
+        granule-is : granule p (m .lent .cells) b ≡ numberOf (storedWords prims map (m .lent .constants) a value)
+        unfolding granule
+        granule-is = ap numberOf (ap₂ (λ (i n : ℕ). partAt (m .lent .cells) i n) (one .first) (one .count) ∙ held)
 
-      -- a digest that direct access may write is stored plain
-      digest-is : (m : Machine) (value : ℕ) → Right map m → value < 2 ^ 64 → inDigest (partitionAt map b) b ≡ true
-          → partAt (m .lent .cells) first count ≡ storedWords prims map (m .lent .constants) a value → granule (partitionAt map b) (m .lent .cells) b ≡ usedValue map a value
-      digest-is m value r v t e = sym (plain (plain-kind _ soft)) ∙ data-is m value r v e
-        where
-          soft : rightsOf (partitionAt map b .kind) .hardware ≡ false
-          soft = rw same-partition (not-passed _ (λ h. true-not-false (and-both _ _ h (sym same-side ∙ t)) open?))
+        data-is : unscrambled prims map (m .lent .constants) p (granule p (m .lent .cells) b) ≡ usedValue map a value
+        data-is =
+            ap₂ (λ (p : Partition) (x : ℕ). unscrambled prims map (m .lent .constants) p x) same-partition granule-is
+            ∙ read-stored (m .lent .constants) (r .words) a value below v
 
-          plain : rightsOf (partitionAt map b .kind) .scrambled ≡ false
-              → unscrambled prims map (m .lent .constants) (partitionAt map b) (granule (partitionAt map b) (m .lent .cells) b) ≡ granule (partitionAt map b) (m .lent .cells) b
-          plain q = unfold unscrambled in (if-false _ _ q)
+        -- a digest that direct access may write is stored plain
+        digest-is : inDigest p b ≡ true → granule p (m .lent .cells) b ≡ usedValue map a value
+        digest-is t = sym (plain (soft-plain _ soft)) ∙ data-is
+          where
+            soft : rightsOf (p .kind) .hardware ≡ false
+            soft = rw same-partition (not-passed _ (λ h. true-not-false (and-both _ _ h (sym same-side ∙ t)) open?))
 
-      read-act : (c₀ : List ℕ) (m : Machine) (value : ℕ) → value < 2 ^ 64 → Fresh map c₀ m → rightsOf (partitionAt map a .kind) .direct ≡ true
-          → storedDigest (partitionAt map a) c₀ ≡ 0 → partAt (m .lent .cells) first count ≡ storedWords prims map (m .lent .constants) a value
-          → (inDigest (partitionAt map b) b ≡ false → readLocked (m .session) (numberAt map b) ≡ false)
-          → readyAct prims map m (Read b) ≡ say (Done (usedValue map a value)) stay
-      unfolding readyAct commandAct readAct
-      read-act c₀ m value v f d z e k =
-          let d′ : rightsOf (partitionAt map b .kind) .direct ≡ true = rw same-partition d in
-          let z′ : storedDigest (partitionAt map b) c₀ ≡ 0 = rw same-partition z in
-          if-false _ _ (is-not (f .awake)) ∙ if-false _ _ (lt-leb _ _ low) ∙ if-false _ _ (is-not d′)
-          ∙ by-cases (inDigest (partitionAt map b) b)
-          (λ t. if-true _ _ t ∙ ap (λ (x : ℕ). say (Done x) stay) (digest-is m value (f .right) v t e))
-          (λ t. if-false _ _ t ∙ if-false _ _ (k t) ∙ if-false _ _ (and-no (rightsOf (partitionAt map b .kind) .scrambled) (not-sensed c₀ m f b low d′ z′))
-          ∙ ap (λ (x : ℕ). say (Done x) stay) (data-is m value (f .right) v e))
+            plain : rightsOf (p .kind) .scrambled ≡ false
+                → unscrambled prims map (m .lent .constants) p (granule p (m .lent .cells) b) ≡ granule p (m .lent .cells) b
+            plain q = unfold unscrambled in (if-false _ _ q)
 
-      read-back : (c₀ : List ℕ) (m : Machine) (value : ℕ) → value < 2 ^ 64 → Fresh map c₀ m → rightsOf (partitionAt map a .kind) .direct ≡ true
-          → storedDigest (partitionAt map a) c₀ ≡ 0 → partAt (m .lent .cells) first count ≡ storedWords prims map (m .lent .constants) a value
-          → (inDigest (partitionAt map b) b ≡ false → readLocked (m .session) (numberAt map b) ≡ false)
-          → step prims map (Read b) m .result .answer ≡ Done (usedValue map a value)
-      unfolding act performed perform
-      read-back c₀ m value v f d z e k = rw (step-act prims map (Read b) m (f .right) tt, read-act c₀ m value v f d z e k)
+        -- on a chip that is Ready since a power-up that found the partition open, a read answers 0 and the data used
+        read-act : (c₀ : List ℕ) → Fresh map c₀ m → storedDigest (partitionAt map a) c₀ ≡ 0
+            → (inDigest p b ≡ false → readLocked (m .session) (numberAt map b) ≡ false)
+            → readyAct prims map m (Read b) ≡ say (Done (usedValue map a value)) stay
+        unfolding readyAct commandAct readAct
+        read-act c₀ f z k =
+            let d′ : rightsOf (p .kind) .direct ≡ true = rw same-partition direct in
+            let z′ : storedDigest p c₀ ≡ 0 = rw same-partition z in
+            if-false _ _ (ap not (f .awake)) ∙ if-false _ _ (lt-leb _ _ low) ∙ if-false _ _ (ap not d′)
+            ∙ by-cases (inDigest p b)
+            (λ t. if-true _ _ t ∙ ap (λ (x : ℕ). say (Done x) stay) (digest-is t))
+            (λ t. if-false _ _ t ∙ if-false _ _ (k t) ∙ if-false _ _ (and-false (rightsOf (p .kind) .scrambled) (not-sensed c₀ m f b low d′ z′))
+            ∙ ap (λ (x : ℕ). say (Done x) stay) data-is)
 
-  -- ---- the theorem: any commands l₀, a power-up that answers 0, commands l₁ while Ready lasts, the write, then l₂
-  pub allowed-writes : (m : Machine) → Right map m → (l₀ l₁ : List Command) (a value : ℕ) → value < 2 ^ 64
-      → let m₀ = after prims map l₀ m in
-      let m₁ = after prims map l₁ (step prims map PowerUp m₀ .result .machine) in
-      let s = step prims map (Write a value) m₁ in
-      codeOf (step prims map PowerUp m₀ .result .answer) ≡ 0x00 → Lasts prims map l₁ (step prims map PowerUp m₀ .result .machine)
-      → Allowed prims map (m .lent .constants) (m₀ .lent .cells) (m₁ .lent .cells) a value
-      → TakesEffect prims map m₁ a value s
-      × ((l₂ : List Command) → Lasts prims map l₂ (s .result .machine) → Spared prims map a l₂ (s .result .machine)
-      → let m₂ = after prims map l₂ (s .result .machine) in
-      (b : ℕ) → b < limit map → firstWord (partitionAt map b) b ≡ firstWord (partitionAt map a) a
-      → (inDigest (partitionAt map b) b ≡ false → readLocked (m₂ .session) (numberAt map b) ≡ false)
-      → step prims map (Read b) m₂ .result .answer ≡ Done (usedValue map a value))
-  allowed-writes m r l₀ l₁ a value v woke lasts al = (took, λ l₂ la sp b bl bs k. reads l₂ la sp b bl bs k)
-    where
-      m₀ : Machine
-      m₀ = after prims map l₀ m
+        read-back : (c₀ : List ℕ) → Fresh map c₀ m → storedDigest (partitionAt map a) c₀ ≡ 0
+            → (inDigest p b ≡ false → readLocked (m .session) (numberAt map b) ≡ false)
+            → answerTo prims map (Read b) m ≡ Done (usedValue map a value)
+        unfolding act performed perform
+        read-back c₀ f z k = rw (step-act prims map (Read b) m r tt, answerTo, read-act c₀ f z k)
 
-      up : Machine
-      up = step prims map PowerUp m₀ .result .machine
+    -- on any chip, a read that answers 0 answers the data used
+    read-shows : (m : Machine) → Right map m → (value : ℕ) → value < 2 ^ 64
+        → partAt (m .lent .cells) first count ≡ storedWords prims map (m .lent .constants) a value
+        → (b shown : ℕ) → firstWord (partitionAt map b) b ≡ first → outcome prims map (Read b) m .answer ≡ Done shown → shown ≡ usedValue map a value
+    unfolding readyAct commandAct readAct perform
+    read-shows m r value v held b shown same =
+        if-both Q _ _ _ (λ t e. absurd (not-done refl e)) λ t. if-both Q _ _ _ (λ t e. absurd (not-done refl e)) λ l.
+        if-both Q _ _ _ (λ t e. absurd (not-done refl e)) λ t.
+        if-both Q _ _ _ (λ i e. sym (ap valueOf e) ∙ digest-is b (leb-false _ _ l) same m r value v held i) λ i.
+        if-both Q _ _ _ (λ t e. absurd (not-done refl e)) λ t. if-both Q _ _ _ (λ t e. absurd (not-done refl e)) λ t e.
+        sym (ap valueOf e) ∙ data-is b (leb-false _ _ l) same m r value v held
+      where
+        Q : Act → Type 0
+        Q x = perform x (m .lent .copy) (m .lent .cells) .answer ≡ Done shown → shown ≡ usedValue map a value
 
-      m₁ : Machine
-      m₁ = after prims map l₁ up
+    read-lasts : (m : Machine) → Right map m → (value : ℕ) → value < 2 ^ 64
+        → partAt (m .lent .cells) first count ≡ storedWords prims map (m .lent .constants) a value
+        → (b shown : ℕ) → firstWord (partitionAt map b) b ≡ first → answerTo prims map (Read b) m ≡ Done shown → shown ≡ usedValue map a value
+    unfolding act performed
+    read-lasts m r value v held b shown same = rw (step-act prims map (Read b) m r tt, answerTo) (read-shows m r value v held b shown same)
 
-      s : Step
-      s = step prims map (Write a value) m₁
+  -- ---- the theorems: any commands l₀, a power-up that answers 0, commands l₁ while Ready lasts, the write, then l₂
 
-      fresh : Fresh map (m₀ .lent .cells) m₁
-      fresh = after-fresh prims map F (m₀ .lent .cells) l₁ up lasts (first-fresh prims map F m₀ (after-right prims map l₀ m r) woke)
+  module _ (m : Machine) (l₀ l₁ : List Command) where
+    -- the chip before that power-up, after it, and before the write
+    abbrev found : Machine
+    found = after prims map l₀ m
 
-      same-constants : m₁ .lent .constants ≡ m .lent .constants
-      same-constants = after-constants prims map l₁ up ∙ step-constants prims map PowerUp m₀ ∙ after-constants prims map l₀ m
+    abbrev woken : Machine
+    woken = machineAfter prims map PowerUp found
 
-      allowed : Allowed prims map (m₁ .lent .constants) (m₀ .lent .cells) (m₁ .lent .cells) a value
-      allowed = rw same-constants al
+    abbrev awake : Machine
+    awake = after prims map l₁ woken
 
-      took : TakesEffect prims map m₁ a value s
-      took = write-takes (m₀ .lent .cells) m₁ fresh a value allowed
+  module _ (m : Machine) (r : Right map m) (l₀ l₁ : List Command) (ready : Ready prims map m l₀ l₁) (a value : ℕ) (v : value < 2 ^ 64)
+      (al : Allowed prims map (m .lent .constants) (found m l₀ l₁ .lent .cells) (awake m l₀ l₁ .lent .cells) a value) where
+    abbrev m₁ : Machine
+    m₁ = awake m l₀ l₁
 
-      reads : (l₂ : List Command) → Lasts prims map l₂ (s .result .machine) → Spared prims map a l₂ (s .result .machine)
-          → (b : ℕ) → b < limit map → firstWord (partitionAt map b) b ≡ firstWord (partitionAt map a) a
-          → (inDigest (partitionAt map b) b ≡ false → readLocked (after prims map l₂ (s .result .machine) .session) (numberAt map b) ≡ false)
-          → step prims map (Read b) (after prims map l₂ (s .result .machine)) .result .answer ≡ Done (usedValue map a value)
-      reads l₂ la sp b bl bs k =
-          let m₂ = after prims map l₂ (s .result .machine) in
+    abbrev s : Step
+    s = step prims map (Write a value) m₁
+
+    abbrev c₀ : List ℕ
+    c₀ = found m l₀ l₁ .lent .cells
+
+    fresh : Fresh map c₀ m₁
+    fresh = after-fresh prims map F c₀ l₁ (woken m l₀ l₁) (ready .lasts) (first-fresh prims map F (found m l₀ l₁) (after-right prims map l₀ m r) (ready .woke))
+
+    pub write-taken : TakesEffect prims map m₁ a value s
+    write-taken = write-takes c₀ m₁ fresh a value (rw same-constants al)
+      where
+        same-constants : m₁ .lent .constants ≡ m .lent .constants
+        same-constants = after-constants prims map l₁ (woken m l₀ l₁) ∙ step-constants prims map PowerUp (found m l₀ l₁) ∙ after-constants prims map l₀ m
+
+    module _ (l₂ : List Command) (spared : Spared prims map a l₂ (s .result .machine)) where
+      abbrev m₂ : Machine
+      m₂ = after prims map l₂ (s .result .machine)
+
+      still-right : Right map m₂
+      still-right = after-right prims map l₂ (s .result .machine) (step-right prims map (Write a value) m₁ (fresh .right))
+
+      still-held : partAt (m₂ .lent .cells) (firstWord (partitionAt map a) a) (wordCount (partitionAt map a) a) ≡ storedWords prims map (m₂ .lent .constants) a value
+      still-held =
           let e : m₂ .lent .constants ≡ m₁ .lent .constants = after-constants prims map l₂ (s .result .machine) ∙ step-constants prims map (Write a value) m₁ in
-          let q = after-quiet a (al .below) (al .notDigest) l₂ (s .result .machine) (step-right prims map (Write a value) m₁ (fresh .right)) la sp in
-          read-back a (al .below) (al .notDigest) b bl bs (m₀ .lent .cells) m₂ value v
-          (after-fresh prims map F (m₀ .lent .cells) l₂ (s .result .machine) la (step-fresh prims map F (m₀ .lent .cells) (Write a value) m₁ tt fresh))
-          (al .direct) (al .unlocked) (rw e (q ∙ took .holds)) k
+          rw e (after-stays a (al .below) (al .direct) (al .notDigest) l₂ (s .result .machine) spared ∙ write-taken .holds)
+
+      -- while Ready lasts, every read of the granule answers 0 and the data used
+      pub reads-back : Lasts prims map l₂ (s .result .machine) → (b : ℕ) → b < limit map → firstWord (partitionAt map b) b ≡ firstWord (partitionAt map a) a
+          → (inDigest (partitionAt map b) b ≡ false → readLocked (m₂ .session) (numberAt map b) ≡ false)
+          → answerTo prims map (Read b) m₂ ≡ Done (usedValue map a value)
+      reads-back lasts b low same =
+          let f = after-fresh prims map F c₀ l₂ (s .result .machine) lasts (step-fresh prims map F c₀ (Write a value) m₁ tt fresh) in
+          read-back a (al .below) (al .direct) (al .notDigest) b low same m₂ still-right value v still-held c₀ f (al .unlocked)
+
+      -- and ever after, every read of the granule that answers 0 answers the data used
+      pub reads-last : (b shown : ℕ) → firstWord (partitionAt map b) b ≡ firstWord (partitionAt map a) a
+          → answerTo prims map (Read b) m₂ ≡ Done shown → shown ≡ usedValue map a value
+      reads-last = read-lasts a (al .below) (al .direct) (al .notDigest) m₂ still-right value v still-held

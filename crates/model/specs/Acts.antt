@@ -44,13 +44,16 @@ pub record Performed : Type 0 where
   pub turn : Turn
   pub compared : List Bool
 
+-- done words lead on, a refused cell ends the act
 unfoldable pub afterProgram : Programmed → Performed → (ℕ → Performed) → Performed
 afterProgram programmed.Done next refused = next
 afterProgram (programmed.Refused cell) next refused = refused cell
 
+-- a comparison's result stands before those of what follows
 unfoldable pub noting : Bool → Performed → Performed
 noting result r = record { cells = r .cells; answer = r .answer; turn = r .turn; compared = result ∷ r .compared }
 
+-- an act on a copy and cells; words that are refused change no cell
 unfoldable pub perform : Act → List ℕ → List ℕ → Performed
 perform (say answer turn) copy cells = record { cells = cells; answer = answer; turn = turn; compared = [] }
 perform (program at words turn next) copy cells =

@@ -3,6 +3,7 @@ use Prim.Native.Nat.{ℕ}
 use Rattle.model.specs.declared.Answer.{Answer}
 use Rattle.model.specs.declared.Answer.the-variants.{Done, Cleared, Denied, DigestFailed, NotReady, LifeCycleFailed, WrongLength, UnknownTarget, InvalidConstants, StrokesUsed, NotInTable, TokenNotLocked, TokenDiffers}
 
+-- the table of codes; 7 is given for two reasons, `NotReady` and `LifeCycleFailed`
 abbrev pub codeOf : Answer → ℕ
 codeOf (Done value) = 0x00
 codeOf (Cleared cell) = 0x04
@@ -18,6 +19,7 @@ codeOf NotInTable = 0x21
 codeOf TokenNotLocked = 0x22
 codeOf TokenDiffers = 0x23
 
+-- stated: what is done, "value: partition" of a 6, and the value of a power-up that found no usable life cycle; a 4 does not tell its cell
 abbrev pub valueOf : Answer → ℕ
 valueOf (Done value) = value
 valueOf (Cleared cell) = 0

@@ -1,13 +1,14 @@
--- Beyond demand 3, in the same style: the device code is final, the life cycle only goes forward, and what only a power-up or a transition changes.
-use Prim.Native.Nat.{ℕ, suc, _≤_}
+-- Beyond demand 3, in the same style: what a write stored is what is ever read, the device code is final, the life cycle only goes forward, and what
+-- only a power-up or a transition changes.
+use Prim.Native.Nat.{ℕ, suc, _^_, _≤_, _<_}
 use mathlib.Core.Path.{_≡_}
 use mathlib.Core.Bool.{true}
 use mathlib.Core.List.{List, [], _∷_, _++_}
-use Rattle.partitions.specs.Map.{Map, rightsOf, numberAt, partition}
+use Rattle.partitions.specs.Map.{Map, rightsOf, numberAt, partition, partitionAt, firstWord}
 use Rattle.life_cycle.specs.declared.LifeCycle.{LifeCycle}
 use Rattle.life_cycle.specs.declared.LifeCycle.the-variants.{Valid}
 use Rattle.life_cycle.specs.declared.Token.{Token}
-use Rattle.life_cycle.specs.declared.Entry.the-variants.{Allowed}
+use Rattle.life_cycle.specs.declared.Entry.the-variants as entry
 use Rattle.life_cycle.specs.Transitions.{transition}
 use Rattle.model.specs.declared.Answer.the-variants.{Done}
 use Rattle.model.specs.declared.Command.{Command}
@@ -15,14 +16,16 @@ use Rattle.model.specs.declared.Command.the-variants.{Read, Write, Front
 use Rattle.model.specs.Lent.{Machine, Primitives}
 use Rattle.model.specs.Commands.{granule, storedDigest}
 use Rattle.model.specs.PowerUp.{lifeCycleIn}
-use Rattle.model.specs.Step.{step, after}
-use Rattle.model.specs.Terms.{Right, Digested}
+use Rattle.model.specs.Step.{step, after, machineAfter, answerTo}
+use Rattle.model.specs.Terms.{Right, Digested, Spared, Allowed, usedValue}
+use Rattle.model.specs.Demand3.{Ready}
 
 -- the course of a life cycle: it stays, spends a stroke, or spends a stroke and takes an entry of the table
 pub data Course (x : LifeCycle) : LifeCycle → Type 0 where
   stays : Course x x
   spends : {state count : ℕ} → Course x (Valid state count) → Course x (Valid state (suc count))
-  moves : {state count target : ℕ} {token : Token} → Course x (Valid state count) → transition state target ≡ Allowed token → Course x (Valid target (suc count))
+  moves : {state count target : ℕ} {token : Token} → Course x (Valid state count) → transition state target ≡ entry.Allowed token
+      → Course x (Valid target (suc count))
 
 -- neither a power-up nor a transition
 abbrev pub quiet : Command → Type 0
@@ -40,11 +43,21 @@ Quiet (x ∷ l) = quiet x × Quiet l
 
 module _ (prims : Primitives) (map : Map) where
   pub record Beyond : Type 0 where
+    -- what a write that the rules allowed has stored is what is ever read there: whatever follows, power-ups and transitions too, each read of its
+    -- granule that answers 0 answers the data used, while no other write to the granule answers 0
+    pub lasting : (m : Machine) → Right map m → (l₀ l₁ : List Command) → Ready prims map m l₀ l₁ → (a value : ℕ) → value < 2 ^ 64
+        → let m₀ = after prims map l₀ m in
+        let m₁ = after prims map l₁ (machineAfter prims map PowerUp m₀) in
+        let s = step prims map (Write a value) m₁ in
+        Allowed prims map (m .lent .constants) (m₀ .lent .cells) (m₁ .lent .cells) a value
+        → (l₂ : List Command) → Spared prims map a l₂ (s .result .machine)
+        → (b shown : ℕ) → firstWord (partitionAt map b) b ≡ firstWord (partitionAt map a) a
+        → answerTo prims map (Read b) (after prims map l₂ (s .result .machine)) ≡ Done shown → shown ≡ usedValue map a value
     -- once a power-up has found a partition with front reads (HW_CFG, which begins with the DEVICE_ID) locked, every front read of it that ever
     -- answers 0 answers the words that were stored then
     pub device : (m : Machine) → Right map m → (n : ℕ) → Digested map n → rightsOf (partition map n .kind) .front ≡ true → (l₁ l₂ : List Command)
         → (storedDigest (partition map n) (after prims map l₁ m .lent .cells) ≡ 0 → ⊥)
-        → (a value : ℕ) → numberAt map a ≡ n → step prims map (FrontRead a) (after prims map (l₁ ++ PowerUp ∷ l₂) m) .result .answer ≡ Done value
+        → (a value : ℕ) → numberAt map a ≡ n → answerTo prims map (FrontRead a) (after prims map (l₁ ++ PowerUp ∷ l₂) m) ≡ Done value
         → value ≡ granule (partition map n) (after prims map l₁ m .lent .cells) a
     -- from a power-up on, what the life cycle words decode to only goes along the table, a stroke at a time
     pub courses : (m : Machine) → Right map m → (l₁ l₂ : List Command)

@@ -21,10 +21,11 @@ pub record Case : Type 0 where
   pub expected : List (ℕ × ℕ)
   pub left : Option (List ℕ)
 
+-- 448 words
 abbrev pub blank : List ℕ
 blank = replicate 448 0
 
--- count 24, state RAW: all counter words are D
+-- count 24, state RAW: from word 404 (0x328) on, 24 counter words that are all D and 20 state words that are zero
 abbrev pub spent : List ℕ
 spent = replicate 404 0 ++ replicate 24 3 ++ replicate 20 0
 
@@ -87,5 +88,6 @@ module _ (prims : Primitives) (keys : ℕ → ℕ) where
   abbrev pub Hold : List Case → Type 0
   Hold [] = Unit {0}
   Hold (c ∷ cs) =
-      ((map said (answers prims map1 (c .commands) (chip (c .cells))) ≡ c .expected) × leaves (c .left) (after prims map1 (c .commands) (chip (c .cells)) .lent .cells))
+      ((map said (answers prims map1 (c .commands) (chip (c .cells))) ≡ c .expected)
+      × leaves (c .left) (after prims map1 (c .commands) (chip (c .cells)) .lent .cells))
       × Hold cs

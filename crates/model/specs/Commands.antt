@@ -23,7 +23,7 @@ use Rattle.model.specs.Session.{isReady, sensedLocked, readLocked}
 use Rattle.model.specs.Lent.{Machine, Primitives, keyOf, digestStart, digestFinal, rawToken}
 use Rattle.model.specs.Acts.{stay, lock, halt, die, Act, say, program, compare, refuse}
 
--- the granule of an address in the cells or in the copy
+-- "the value is the granule's, a 4-byte one in the low half": of an address, in the cells or in the copy
 unfoldable pub granule : Partition → List ℕ → ℕ → ℕ
 granule p words a = numberOf (partAt words (firstWord p a) (wordCount p a))
 
@@ -36,7 +36,8 @@ unfoldable pub dataWords : Partition → List ℕ → List ℕ
 dataWords p cells = partAt cells (p .start / 2) (p .digest / 2 - p .start / 2)
 
 -- where a token is stored: the partition's kind, and the first word of 16 bytes counted from its start.
--- "SECRET0 (TEST_UNLOCK, TEST_EXIT, 16 bytes each) .. SECRET2 (RMA token 16, ..)"
+-- "SECRET0 (TEST_UNLOCK, TEST_EXIT, 16 bytes each) .. SECRET2 (RMA token 16, ..)". `Nothing` and `RawUnlock` are not stored there, and `tokenAct`
+-- never asks for their place.
 unfoldable pub tokenKind : Token → Kind
 tokenKind Nothing = kind.Secret0
 tokenKind RawUnlock = kind.Secret0
@@ -117,13 +118,14 @@ module _ (prims : Primitives) (map : Map) where
     unfoldable pub digestAct : ℕ → Act
     digestAct a =
         let p = partitionAt map a in
+        let digest = computedDigest constants p (m .lent .cells) in
         if leb (limit map) a then refuse Denied
         else if not (rightsOf (p .kind) .hardware) then refuse Denied
         else if not (eqb a (p .start)) then refuse Denied
         else if sensedLocked session (numberAt map a) then refuse Denied
-        else program (p .digest / 2) (wordsOf 4 (computedDigest constants p (m .lent .cells))) stay (say (Done (computedDigest constants p (m .lent .cells))) stay)
+        else program (p .digest / 2) (wordsOf 4 digest) stay (say (Done digest) stay)
 
-    -- "5 unless 0 or 1. Lasts until power-up; locking again answers 0."
+    -- "5 unless 0 or 1. Lasts until power-up; locking again answers 0." (0 and 1 are the partitions with a read lock)
     unfoldable pub readLockAct : ℕ → Act
     readLockAct number = if not (rightsOf (partition map number .kind) .lockable) then refuse Denied else say (Done 0) (lock number)
 
@@ -131,6 +133,7 @@ module _ (prims : Primitives) (map : Map) where
     unfoldable pub moveAct : ℕ → Act
     moveAct target = program stateAt (stateWords constants target) die (say (Done 0) halt)
 
+    -- "0x22; 0x23": the token's partition is not sensed locked, the token differs
     unfoldable pub lockedTokenAct : Token → ℕ → ℕ → Act
     lockedTokenAct token target given =
         if not (sensedLocked session (numberOfKind map (tokenKind token))) then say TokenNotLocked halt
@@ -144,6 +147,7 @@ module _ (prims : Primitives) (map : Map) where
     tokenAct TestExit target given = lockedTokenAct TestExit target given
     tokenAct Rma target given = lockedTokenAct Rma target given
 
+    -- "then 0x21": the transition is not in the table
     unfoldable pub entryAct : Entry → ℕ → ℕ → Act
     entryAct Forbidden target given = say NotInTable halt
     entryAct (Allowed token) target given = tokenAct token target given
@@ -157,6 +161,7 @@ module _ (prims : Primitives) (map : Map) where
         else if not (ltb (session .count) 24) then say StrokesUsed halt
         else program counterAt (counterWords constants (suc (session .count))) die (entryAct (transition (session .state) target) target given)
 
+    -- Power-up is no act (`obey`, in Step.antt): its clause is never asked.
     unfoldable pub commandAct : Command → Act
     commandAct (Read a) = readAct a
     commandAct (Write a value) = writeAct a value

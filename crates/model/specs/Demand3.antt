@@ -12,14 +12,14 @@ use Rattle.model.specs.Answers.{codeOf}
 use Rattle.model.specs.Session.{readLocked}
 use Rattle.model.specs.Lent.{Machine, Primitives}
 use Rattle.model.specs.Commands.{storedDigest}
-use Rattle.model.specs.Step.{step, after, answers}
+use Rattle.model.specs.Step.{step, after, answers, machineAfter, answerTo}
 use Rattle.model.specs.Terms.{Right, Digested, SamePartition, Lasts, Spared, Allowed, TakesEffect, usedValue, Matched, Alike}
 
 module _ (prims : Primitives) (map : Map) where
   -- Ready since a power-up: the commands l₀, a power-up that answers 0, and commands l₁ through which Ready lasts
   pub record Ready (m : Machine) (l₀ l₁ : List Command) : Type 0 where
-    pub woke : codeOf (step prims map PowerUp (after prims map l₀ m) .result .answer) ≡ 0x00
-    pub lasts : Lasts prims map l₁ (step prims map PowerUp (after prims map l₀ m) .result .machine)
+    pub woke : codeOf (answerTo prims map PowerUp (after prims map l₀ m)) ≡ 0x00
+    pub lasts : Lasts prims map l₁ (machineAfter prims map PowerUp (after prims map l₀ m))
 
   pub record Demand3 : Type 0 where
     -- every bit ever programmed still is, at every later point of the list
@@ -32,7 +32,7 @@ module _ (prims : Primitives) (map : Map) where
     -- and no other write to the granule answers 0, unless it reads data of a read-locked partition
     pub writes : (m : Machine) → Right map m → (l₀ l₁ : List Command) → Ready m l₀ l₁ → (a value : ℕ) → value < 2 ^ 64
         → let m₀ = after prims map l₀ m in
-        let m₁ = after prims map l₁ (step prims map PowerUp m₀ .result .machine) in
+        let m₁ = after prims map l₁ (machineAfter prims map PowerUp m₀) in
         let s = step prims map (Write a value) m₁ in
         Allowed prims map (m .lent .constants) (m₀ .lent .cells) (m₁ .lent .cells) a value
         → TakesEffect prims map m₁ a value s
@@ -40,7 +40,7 @@ module _ (prims : Primitives) (map : Map) where
         → let m₂ = after prims map l₂ (s .result .machine) in
         (b : ℕ) → b < limit map → firstWord (partitionAt map b) b ≡ firstWord (partitionAt map a) a
         → (inDigest (partitionAt map b) b ≡ false → readLocked (m₂ .session) (numberAt map b) ≡ false)
-        → step prims map (Read b) m₂ .result .answer ≡ Done (usedValue map a value))
+        → answerTo prims map (Read b) m₂ ≡ Done (usedValue map a value))
     -- two chips that differ only in data words of secret partitions with the same nonzero stored digests: where their verdicts and token
     -- comparisons agree, every answer is equal and they still differ only there
     pub chips : (m n : Machine) → Right map m → Right map n → m .session ≡ n .session → m .lent .constants ≡ n .lent .constants
@@ -51,4 +51,4 @@ module _ (prims : Primitives) (map : Map) where
         × Alike map (m .lent .cells) (n .lent .cells) (after prims map (PowerUp ∷ l) m .lent .cells) (after prims map (PowerUp ∷ l) n .lent .cells)
     -- a transition in such a list never answers 4
     pub strokes : (m : Machine) → Right map m → (l : List Command) (target high low : ℕ)
-        → codeOf (step prims map (Transition target high low) (after prims map (PowerUp ∷ l) m) .result .answer) ≡ 0x04 → ⊥
+        → codeOf (answerTo prims map (Transition target high low) (after prims map (PowerUp ∷ l) m)) ≡ 0x04 → ⊥

@@ -25,6 +25,7 @@ unfoldable pub rightLengths : Map → Lent → Bool
 rightLengths map l = eqb (length (l .cells)) (limit map / 2) && eqb (length (l .copy)) (limit map / 2) && eqb (length (l .constants)) 132
 
 -- "0 to 23 keys of SECRET0, 1, 2; 24 to 27 digest start value; 28 to 35 digest final key; .. 124 to 131 hashed RAW_UNLOCK token."
+-- No other kind is scrambled: its key is never asked for.
 unfoldable pub keyOf : List ℕ → Kind → ℕ
 keyOf constants Secret0 = numberOf (partAt constants 0 8)
 keyOf constants Secret1 = numberOf (partAt constants 8 8)

@@ -8,4 +8,5 @@ pub mod Step
 pub mod Terms
 pub mod Demand3
 pub mod Beyond
+pub mod Refusals
 pub mod Cases

@@ -7,9 +7,9 @@ use lib.Dec.{eqb}
 use lib.ListN.{getD}
 use Rattle.basics.specs.Choice.{if_then_else_}
 use Rattle.basics.specs.Range.{listed}
-use Rattle.words.specs.Words.{numberOf, wordsOf, partAt}
+use Rattle.words.specs.Words.{wordsOf, partAt}
 use Rattle.partitions.specs.declared.Partition.{Partition}
-use Rattle.partitions.specs.Map.{Map, rightsOf, partitionAt, limit, inDigest, firstWord}
+use Rattle.partitions.specs.Map.{Map, rightsOf, partitionAt, limit, inDigest, firstWord, wordCount}
 use Rattle.life_cycle.specs.declared.LifeCycle.{LifeCycle}
 use Rattle.life_cycle.specs.declared.LifeCycle.the-variants.{Valid, Invalid}
 use Rattle.life_cycle.specs.Words.{decoded}
@@ -20,9 +20,9 @@ use Rattle.model.specs.declared.Session.{Session}
 use Rattle.model.specs.declared.Answer.{Answer}
 use Rattle.model.specs.declared.Answer.the-variants.{Done, DigestFailed, LifeCycleFailed}
 use Rattle.model.specs.Lent.{Lent, Primitives}
-use Rattle.model.specs.Commands.{storedDigest, computedDigest, unscrambled, counterAt, stateAt}
+use Rattle.model.specs.Commands.{granule, storedDigest, computedDigest, unscrambled, counterAt, stateAt}
 
--- one entry for each partition that has a digest, and one for each that has a read lock
+-- one entry for each partition that has a digest (those with direct access: all but LIFE_CYCLE), and one for each that has a read lock
 unfoldable pub digests : (Partition → ℕ) → Map → List ℕ
 digests f [] = []
 digests f (p ∷ ps) = if rightsOf (p .kind) .direct then f p ∷ digests f ps else digests f ps
@@ -36,7 +36,7 @@ pub data Waking : Type 0 where
   fails : Reason → Answer → Waking
   wakes : ℕ → ℕ → Waking
 
--- "state and count are decoded; invalid or SCRAP gives 7 and Dead 7 .. value for SCRAP as below, for invalid 0xFFFF"
+-- "invalid or SCRAP gives 7 and Dead 7 .. value for SCRAP as below, for invalid 0xFFFF"; SCRAP is state 20
 unfoldable pub lifeCycleWaking : LifeCycle → Waking
 lifeCycleWaking Invalid = fails reason.LifeCycleFailed (LifeCycleFailed 0xFFFF)
 lifeCycleWaking (Valid state count) =
@@ -48,7 +48,7 @@ wakingOf (some number) life = fails reason.DigestFailed (DigestFailed number)
 wakingOf none life = lifeCycleWaking life
 
 module _ (prims : Primitives) (map : Map) where
-  -- "a nonzero stored digest must equal the one recomputed"
+  -- "Partitions 2 to 5 ..: a nonzero stored digest must equal the one recomputed" (2 to 5 are those with a hardware digest)
   unfoldable pub digestHolds : List ℕ → List ℕ → Partition → Bool
   digestHolds constants cells p =
       not (rightsOf (p .kind) .hardware) || eqb (storedDigest p cells) 0 || eqb (storedDigest p cells) (computedDigest prims map constants p cells)
@@ -61,17 +61,19 @@ module _ (prims : Primitives) (map : Map) where
   unfoldable pub verdictOf : Lent → Option ℕ
   verdictOf l = firstFailing (l .constants) (l .cells) 0 map
 
+  -- "Then state and count are decoded"
   unfoldable pub lifeCycleIn : Lent → LifeCycle
   lifeCycleIn l = decoded (l .constants) (partAt (l .cells) (counterAt prims map) 24) (partAt (l .cells) (stateAt prims map) 20)
 
-  -- "the copy holds 2 to 6, secret data unscrambled, and zero for 0 and 1" (the partitions with read locks), word by word
+  -- "the copy holds 2 to 6, secret data unscrambled, and zero for 0 and 1" (the partitions with read locks): word j, where secret data is unscrambled
+  -- by granules
   unfoldable pub copyWord : List ℕ → List ℕ → ℕ → ℕ
   copyWord constants cells j =
       let a = 2 * j in
       let p = partitionAt map a in
       if rightsOf (p .kind) .lockable then 0
       else if rightsOf (p .kind) .scrambled && not (inDigest p a)
-      then getD (wordsOf 4 (unscrambled prims map constants p (numberOf (partAt cells (firstWord p a) 4)))) (j - firstWord p a) 0
+      then getD (wordsOf (wordCount p a) (unscrambled prims map constants p (granule p cells a))) (j - firstWord p a) 0
       else getD cells j 0
 
   -- "A 6 or 7 here sets the copy to all zero, and sensed digests, state and count to zero". "Success: Ready; sensed digests of 0 to 5 are the
@@ -89,5 +91,6 @@ module _ (prims : Primitives) (map : Map) where
   wokenAnswer (fails reason answer) = answer
   wokenAnswer (wakes state count) = Done (256 * count + state)
 
+  -- how a power-up of these cells ends
   unfoldable pub waking : Lent → Waking
   waking l = wakingOf (verdictOf l) (lifeCycleIn l)

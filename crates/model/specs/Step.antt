@@ -27,11 +27,12 @@ pub record Step : Type 0 where
   pub compared : List Bool
   pub verdicts : List (Option ℕ)
 
--- a refusal before anything else
+-- "A refusal leaves cells, copy and record as they were"
 unfoldable pub unchanged : Answer → Machine → Step
 unchanged answer m = record { result = record { machine = m; answer = answer }; compared = []; verdicts = [] }
 
 module _ (prims : Primitives) (map : Map) where
+  -- the cells are what the act left, the copy stays, and the record takes its turn
   unfoldable pub performed : Performed → Machine → Step
   performed r m =
       record {
@@ -46,9 +47,11 @@ module _ (prims : Primitives) (map : Map) where
         verdicts = [];
       }
 
+  -- a command but power-up: decided, then performed
   unfoldable pub act : Command → Machine → Step
   act x m = performed (perform (readyAct prims map m x) (m .lent .copy) (m .lent .cells)) m
 
+  -- power-up, with its integrity verdict
   unfoldable pub powerUp : Machine → Step
   powerUp m =
       let l = m .lent in
@@ -65,6 +68,7 @@ module _ (prims : Primitives) (map : Map) where
         verdicts = verdictOf prims map l ∷ [];
       }
 
+  -- a command once what is lent is judged
   unfoldable pub obey : Command → Machine → Step
   obey (Read a) m = act (Read a) m
   obey (Write a value) m = act (Write a value) m
@@ -74,18 +78,25 @@ module _ (prims : Primitives) (map : Map) where
   obey (Transition target high low) m = act (Transition target high low) m
   obey PowerUp m = powerUp m
 
-  -- "Order: 0x10, 0x12, 0x07 for phase or record, then 0x11, then 0x05, then 0x04."
+  -- "Order: 0x10, 0x12, 0x07 for phase or record, then 0x11, then 0x05, then 0x04.": the first two here, for every command
   unfoldable pub step : Command → Machine → Step
   step x m =
       if not (rightLengths map (m .lent)) then unchanged WrongLength m
       else if not (validConstants (m .lent .constants)) then unchanged InvalidConstants m
       else obey x m
 
-  -- the machine after a list of commands, and its answers
+  -- the machine after a command, and the answer
+  abbrev pub machineAfter : Command → Machine → Machine
+  machineAfter x m = step x m .result .machine
+
+  abbrev pub answerTo : Command → Machine → Answer
+  answerTo x m = step x m .result .answer
+
+  -- the machine after a list of commands, and the answers
   unfoldable pub after : List Command → Machine → Machine
   after [] m = m
-  after (x ∷ xs) m = after xs ((step x m) .result .machine)
+  after (x ∷ xs) m = after xs (machineAfter x m)
 
   unfoldable pub answers : List Command → Machine → List Answer
   answers [] m = []
-  answers (x ∷ xs) m = (step x m) .result .answer ∷ answers xs ((step x m) .result .machine)
+  answers (x ∷ xs) m = answerTo x m ∷ answers xs (machineAfter x m)

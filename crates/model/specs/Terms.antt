@@ -16,7 +16,7 @@ use Rattle.model.specs.declared.Command.the-variants.{Read, Write, Front
 use Rattle.model.specs.Answers.{codeOf}
 use Rattle.model.specs.Lent.{Machine, Primitives, rightLengths}
 use Rattle.model.specs.Commands.{scrambled, storedDigest}
-use Rattle.model.specs.Step.{Step, step}
+use Rattle.model.specs.Step.{Step, step, machineAfter, answerTo}
 
 -- lent lengths right, constants valid and words of 16 bits; cells, copy and record are free
 pub record Right (map : Map) (m : Machine) : Type 0 where
@@ -78,12 +78,12 @@ module _ (prims : Primitives) (map : Map) where
   -- Ready lasts through these commands
   unfoldable pub Lasts : List Command → Machine → Type 0
   Lasts [] m = Unit {0}
-  Lasts (x ∷ l) m = staysReady x (step prims map x m .result .answer) × Lasts l (step prims map x m .result .machine)
+  Lasts (x ∷ l) m = staysReady x (answerTo prims map x m) × Lasts l (machineAfter prims map x m)
 
   -- no write to the granule of a in these commands answers 0
   unfoldable pub Spared : ℕ → List Command → Machine → Type 0
   Spared a [] m = Unit {0}
-  Spared a (x ∷ l) m = spares map a x (step prims map x m .result .answer) × Spared a l (step prims map x m .result .machine)
+  Spared a (x ∷ l) m = spares map a x (answerTo prims map x m) × Spared a l (machineAfter prims map x m)
 
   -- on a chip whose last power-up found the cells c₀ and that holds c now, the rules allow this write: it gives neither 5 nor 4
   pub record Allowed (constants c₀ c : List ℕ) (a value : ℕ) : Type 0 where
@@ -96,7 +96,8 @@ module _ (prims : Primitives) (map : Map) where
   -- "It takes effect: it answers 0, its granule holds the data, scrambled where secret, and no other cell changes."
   pub record TakesEffect (m : Machine) (a value : ℕ) (s : Step) : Type 0 where
     pub done : s .result .answer ≡ Done 0
-    pub holds : partAt (s .result .machine .lent .cells) (firstWord (partitionAt map a) a) (wordCount (partitionAt map a) a) ≡ storedWords prims map (m .lent .constants) a value
+    pub holds : let p = partitionAt map a in
+        partAt (s .result .machine .lent .cells) (firstWord p a) (wordCount p a) ≡ storedWords prims map (m .lent .constants) a value
     pub others : (j : ℕ)
         → (firstWord (partitionAt map a) a ≤ j → j < firstWord (partitionAt map a) a + wordCount (partitionAt map a) a → ⊥)
         → getD (s .result .machine .lent .cells) j 0 ≡ getD (m .lent .cells) j 0
@@ -107,7 +108,7 @@ module _ (prims : Primitives) (map : Map) where
   Matched (x ∷ l) m n =
       Agree (step prims map x m .compared) (step prims map x n .compared)
       × Agree (step prims map x m .verdicts) (step prims map x n .verdicts)
-      × Matched l (step prims map x m .result .machine) (step prims map x n .result .machine)
+      × Matched l (machineAfter prims map x m) (machineAfter prims map x n)
 
 -- a secret partition with the same nonzero stored digest on both chips
 pub record Hidden (map : Map) (c d : List ℕ) (n : ℕ) : Type 0 where

@@ -10,6 +10,7 @@ pub enum Reason {
     LifeCycleFailed,
 }
 
+// The phase of a session; a dead one carries its reason.
 pub enum Phase {
     Off,
     Ready,
@@ -94,6 +95,7 @@ impl Session {
 }
 
 impl Answer {
+    // The number of an answer.
     pub fn code(self) -> u8
         ensures { λ r. ⌜ r ≡ codeOf self ⌝ }
     {
@@ -114,6 +116,7 @@ impl Answer {
         }
     }
 
+    // The value that goes with it: 0 unless the paper states one.
     pub fn value(self) -> u64
         ensures { λ r. ⌜ r ≡ valueOf self ⌝ }
     {

@@ -55,10 +55,6 @@ unfolding firstWord wordCount
 size-words p a g e = rw e (refl, refl)
 
 module _ {p : Partition} (f : FitPartition p) where
-  -- two words or four, and each case may use which
-  pub by-word-count {ℓ} : {X : Type ℓ} (a : ℕ) → (wordCount p a ≡ 2 → X) → (wordCount p a ≡ 4 → X) → X
-  by-word-count a two four = by-granule f a (λ e. two (size-words p a 4 e .1)) (λ e. four (size-words p a 8 e .1))
-
   pub scrambled-words : rightsOf (p .kind) .scrambled ≡ true → (a : ℕ) → wordCount p a ≡ 4
   scrambled-words e a = size-words p a 8 (granule-scrambled f e a) .1
 

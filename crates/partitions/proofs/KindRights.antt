@@ -3,7 +3,7 @@ use mathlib.Core.Path.{_≡_, refl}
 use mathlib.Core.Bool.{Bool, true, false, not, _||_}
 use lib.Dec.{T, eqb}
 use borrow.Author.Tests.{not-true}
-use Rattle.basics.proofs.Choice.{from-T, true-not-false}
+use Rattle.basics.proofs.Choice.{from-T, true-not-false, not-passed}
 use Rattle.partitions.specs.declared.Kind.{Kind}
 use Rattle.partitions.specs.declared.Kind.the-variants.{Software, HwCfg, Secret0, Secret1, Secret2, LifeCycle}
 use Rattle.partitions.specs.Map.{rightsOf, kindNumber}
@@ -35,9 +35,12 @@ pub scrambled-hardware : (k : Kind) → rightsOf k .scrambled ≡ true → right
 unfolding rightsOf
 scrambled-hardware = granted-with (λ k. rightsOf k .scrambled) (λ k. rightsOf k .hardware) (tt, tt, tt, tt, tt, tt)
 
-pub scrambled-not-front : (k : Kind) → rightsOf k .scrambled ≡ true → rightsOf k .front ≡ false
-unfolding rightsOf
-scrambled-not-front k e = not-true _ (granted-with (λ k. rightsOf k .scrambled) (λ k. not (rightsOf k .front)) (tt, tt, tt, tt, tt, tt) k e)
+pub scrambled-direct : (k : Kind) → rightsOf k .scrambled ≡ true → rightsOf k .direct ≡ true
+scrambled-direct k e = hardware-direct k (scrambled-hardware k e)
+
+-- where there is no hardware digest data is plain
+pub soft-plain : (k : Kind) → rightsOf k .hardware ≡ false → rightsOf k .scrambled ≡ false
+soft-plain k e = not-passed _ (λ t. true-not-false (scrambled-hardware k t) e)
 
 pub front-hardware : (k : Kind) → rightsOf k .front ≡ true → rightsOf k .hardware ≡ true
 unfolding rightsOf

@@ -1,6 +1,6 @@
 -- Laws of fit maps, over any number of partitions. The idea: a fit map is its first partition and the rest, which is fit from that one's end on.
 use mathlib.Core.Path.{_≡_, refl, ap, _∙_}
-use mathlib.Core.Bool.{Bool, true, false, not, _&&_}
+use mathlib.Core.Bool.{true, false, not, _&&_}
 use mathlib.Core.List.{[], _∷_}
 use Prim.Native.Nat.{ℕ, zero, suc, _+_, _*_, _/_, _%_, _≤_, _<_}
 use native.Mathlib.Omega.{arith}
@@ -8,7 +8,7 @@ use lib.Dec.{eqb, leb, ltb}
 use lib.ListN.{length, List·getD-eq-default}
 use borrow.Author.Tests.{eqb-true, ltb-true, ltb-false, lt-ltb, le-ltb, le-leb, not-true}
 use Rattle.basics.specs.Choice.{if_then_else_}
-use Rattle.basics.proofs.Choice.{by-cases, true-not-false, not-passed, and-left, and-right, and-both, if-true, if-false}
+use Rattle.basics.proofs.Choice.{by-cases, true-not-false, not-passed, and-left, and-right, and-both, and-three, if-true, if-false}
 use Rattle.partitions.specs.declared.Partition.{Partition}
 use Rattle.partitions.specs.declared.Kind.the-variants.{LifeCycle}
 use Rattle.partitions.specs.Map.{Map, rightsOf, holds, numberAt, nowhere, partition, partitionAt, limit, numberOfKind}
@@ -42,11 +42,6 @@ pub record LastPartition (map : Map) (n : ℕ) : Type 0 where
 
 -- ---- the tests of fitness, read as facts
 
-three : (a b c : Bool) → (a && b && c) ≡ true → (a ≡ true) × (b ≡ true) × (c ≡ true)
-three a b c h =
-    let l : (a && b) ≡ true = and-left (a && b) c h in
-    (and-left a b l, and-right a b l, and-right (a && b) c h)
-
 record Placed (at : ℕ) (p : Partition) : Type 0 where
   joins : p .start ≡ at
   start-aligned : p .start % 8 ≡ 0
@@ -57,8 +52,8 @@ record Placed (at : ℕ) (p : Partition) : Type 0 where
 is-placed : (at : ℕ) (p : Partition) → placed at p ≡ true → Placed at p
 unfolding placed
 is-placed at p h =
-    let s = three (eqb (p .start) at && eqb (p .start % 8) 0 && eqb (p .digest % 8) 0) (eqb (p .end % 8) 0) _ h in
-    let t = three (eqb (p .start) at) (eqb (p .start % 8) 0) (eqb (p .digest % 8) 0) (s .0) in
+    let s = and-three (eqb (p .start) at && eqb (p .start % 8) 0 && eqb (p .digest % 8) 0) (eqb (p .end % 8) 0) _ h in
+    let t = and-three (eqb (p .start) at) (eqb (p .start % 8) 0) (eqb (p .digest % 8) 0) (s .0) in
     record {
       joins = eqb-true _ _ (t .0);
       start-aligned = eqb-true _ _ (t .1);
@@ -70,13 +65,13 @@ is-placed at p h =
 is-digested : (p : Partition) → digested p ≡ true → (rightsOf (p .kind) .direct ≡ true) × (p .start < p .digest) × (p .digest + 8 ≡ p .end)
 unfolding digested
 is-digested p h =
-    let s = three (rightsOf (p .kind) .direct) (ltb (p .start) (p .digest)) _ h in
+    let s = and-three (rightsOf (p .kind) .direct) (ltb (p .start) (p .digest)) _ h in
     (s .0, ltb-true _ _ (s .1), eqb-true _ _ (s .2))
 
 are-words : (p : Partition) → lifeCycleWords p ≡ true → (rightsOf (p .kind) .direct ≡ false) × (p .end ≡ p .start + 88) × (p .digest ≡ p .end)
 unfolding lifeCycleWords
 are-words p h =
-    let s = three (not (rightsOf (p .kind) .direct)) (eqb (p .end) (p .start + 88)) _ h in
+    let s = and-three (not (rightsOf (p .kind) .direct)) (eqb (p .end) (p .start + 88)) _ h in
     (not-true _ (s .0), eqb-true _ _ (s .1), eqb-true _ _ (s .2))
 
 -- ---- the first partition of a fit map, and the rest
@@ -103,7 +98,7 @@ fit-first at p [] h =
     let w = are-words p (and-right (placed at p) _ h) in
     fit-partition (is-placed at p (and-left (placed at p) _ h)) (omega arith) (omega arith) (omega arith) (λ d. absurd (true-not-false d (w .0)))
 fit-first at p (q ∷ ps) h =
-    let t = three (placed at p) (digested p) _ h in
+    let t = and-three (placed at p) (digested p) _ h in
     let d = is-digested p (t .1) in
     fit-partition (is-placed at p (t .0)) (omega arith) (omega arith) (omega arith) (λ e. d .2)
 
@@ -112,7 +107,7 @@ fit-rest : (at : ℕ) (p : Partition) (ps : Map) → 0 < length ps → fitFrom a
 unfolding fitFrom
 fit-rest at p [] l h = absurd (omega arith)
 fit-rest at p (q ∷ ps) l h =
-    let t = three (placed at p) (digested p) _ h in
+    let t = and-three (placed at p) (digested p) _ h in
     (is-digested p (t .1) .0, t .2)
 
 limit-rest : (p : Partition) (ps : Map) → 0 < length ps → limit (p ∷ ps) ≡ limit ps
@@ -272,11 +267,6 @@ module _ (map : Map) (fits : fit map ≡ true) where
   pub last-partition : {n : ℕ} → suc n ≡ length map → LastPartition map n
   unfolding fit
   last-partition {n} e = last-from map 0 n fits e
-
-  -- the last partition is the only one that direct access doesn't reach
-  pub closed-last : {n : ℕ} → n < length map → rightsOf (partition map n .kind) .direct ≡ false → suc n ≡ length map
-  closed-last {n} h e =
-      by-cases (ltb (suc n) (length map)) (λ t. absurd (true-not-false (direct-before-last (ltb-true _ _ t)) e)) (λ t. omega (arith, ltb-false))
 
   pub life-cycle-last : suc (numberOfKind map LifeCycle) ≡ length map
   unfolding fit

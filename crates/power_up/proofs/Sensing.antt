@@ -1,48 +1,27 @@
 -- What the copy holds, in blocks of four words. The idea: starts, digests and ends of a fit map stand at multiples of eight bytes, so the words of
 -- a block are in one partition and on one side of its digest address, and a secret block is one granule.
 use mathlib.Core.Path.{_≡_, refl, sym, ap, _∙_}
-use mathlib.Core.Bool.{Bool, true, false, not, _&&_}
+use mathlib.Core.Bool.{true, false, not, _&&_}
 use mathlib.Core.List.{List, [], _∷_}
-use Prim.Native.Nat.{ℕ, zero, suc, _+_, _*_, _-_, _/_, _%_, _≤_, _<_}
+use Prim.Native.Nat.{ℕ, suc, _+_, _*_, _-_, _/_, _%_, _≤_, _<_}
 use native.Mathlib.Omega.{arith}
 use lib.Dec.{leb}
-use lib.ListN.{length, getD, set, length-set}
-use lib.Seq.{sets, ext-getD}
+use lib.ListN.{length, getD, set}
 use borrow.Author.Tests.{leb-true, leb-false, le-leb, lt-leb}
 use Rattle.basics.specs.Range.{listed}
-use Rattle.basics.proofs.Choice.{by-cases, if-true, if-false}
-use Rattle.basics.proofs.Range.{length-listed, listed-at, listed-from, set-more}
+use Rattle.basics.proofs.Choice.{by-cases, and-false, if-true, if-false}
+use Rattle.basics.proofs.Range.{length-listed, listed-at, listed-from, is-listed-from, sets-more}
 use Rattle.words.specs.Words.{numberOf, wordsOf, partAt}
 use Rattle.words.proofs.Words.{Words, length-words, words-number}
-use Rattle.words.proofs.Parts.{length-part}
+use Rattle.words.proofs.Parts.{length-part, part-words}
 use Rattle.partitions.specs.declared.Partition.{Partition}
-use Rattle.partitions.specs.Map.{Map, rightsOf, partitionAt, limit, inDigest, firstWord}
+use Rattle.partitions.specs.Map.{Map, rightsOf, partitionAt, limit, inDigest, firstWord, wordCount}
 use Rattle.partitions.specs.Fitness.{fit}
 use Rattle.partitions.proofs.Map.{inside, only, partition-at}
 use Rattle.partitions.proofs.Granules.{granule-scrambled, size-words}
 use Rattle.model.specs.Lent.{Primitives}
-use Rattle.model.specs.Commands.{unscrambled}
+use Rattle.model.specs.Commands.{granule, unscrambled}
 use Rattle.model.specs.PowerUp.{copyWord}
-
--- ---- lists and words
-
--- a list whose entries follow a rule from a later number on
-is-listed-from : (f : ℕ → ℕ) (i n : ℕ) (xs : List ℕ) → length xs ≡ n → ((k : ℕ) → k < n → getD xs k 0 ≡ f (i + k)) → xs ≡ listed f i n
-is-listed-from f i n xs e h =
-    ext-getD 0 xs (listed f i n) (e ∙ sym (length-listed f i n)) (λ k l. let m : k < n = rw e at l in h k m ∙ sym (listed-from f 0 i n k m))
-
-small-part : {cells : List ℕ} → Words cells → (at n : ℕ) → Words (partAt cells at n)
-unfolding partAt listed
-small-part w at n = record { small = small w at n }
-  where
-    small : {cells : List ℕ} → Words cells → (at n i : ℕ) → getD (listed (λ j. getD cells j 0) at n) i 0 < 65536
-    small w at zero i = omega arith
-    small w at (suc n) zero = w .small at
-    small w at (suc n) (suc i) = small w (suc at) n i
-
-and-false : (b : Bool) → (b && false) ≡ false
-and-false true = refl
-and-false false = refl
 
 -- ---- one word of a block
 
@@ -75,8 +54,9 @@ module _ (prims : Primitives) (map : Map) (fits : fit map ≡ true) (constants c
         (λ t. le-leb (here .digest) (2 * (at + k)) (omega (arith, leb-true)) ∙ sym t)
         (λ t. lt-leb (here .digest) (2 * (at + k)) (before-eight at k _ h aligned e (leb-false _ _ t)) ∙ sym t)
 
-    first-word : rightsOf (here .kind) .scrambled ≡ true → firstWord here (2 * (at + k)) ≡ at
-    first-word s = size-words here (2 * (at + k)) 8 (granule-scrambled (inside map fits known .fits) s (2 * (at + k))) .0 ∙ omega arith
+    -- the granule of a secret word is the block
+    block-words : rightsOf (here .kind) .scrambled ≡ true → (firstWord here (2 * (at + k)) ≡ at) × (wordCount here (2 * (at + k)) ≡ 4)
+    block-words s = let w = size-words here (2 * (at + k)) 8 (granule-scrambled (inside map fits known .fits) s (2 * (at + k))) in (w .0 ∙ omega arith, w .1)
 
     zero-word : rightsOf (here .kind) .lockable ≡ true → 0 ≡ rule (at + k)
     unfolding copyWord
@@ -89,10 +69,11 @@ module _ (prims : Primitives) (map : Map) (fits : fit map ≡ true) (constants c
 
     secret-word : rightsOf (here .kind) .lockable ≡ false → rightsOf (here .kind) .scrambled ≡ true → inDigest here (2 * at) ≡ false
         → getD (wordsOf 4 (unscrambled prims map constants here (numberOf (partAt cells at 4)))) k 0 ≡ rule (at + k)
-    unfolding copyWord
+    unfolding copyWord granule
     secret-word e s d =
         let z : at + k - at ≡ k = omega arith in
-        sym (rw (same-partition, same-side, first-word s, z, s, d) (if-false _ _ e ∙ if-true _ _ refl))
+        let w = block-words s in
+        sym (rw (same-partition, same-side, w .0, w .1, z, s, d) (if-false _ _ e ∙ if-true _ _ refl))
 
   -- ---- the block
 
@@ -108,13 +89,13 @@ module _ (prims : Primitives) (map : Map) (fits : fit map ≡ true) (constants c
   plain-block : Words cells → rightsOf (here .kind) .lockable ≡ false → (rightsOf (here .kind) .scrambled && not (inDigest here (2 * at))) ≡ false
       → wordsOf 4 (numberOf (partAt cells at 4)) ≡ listed rule at 4
   plain-block w e s =
-      let q : wordsOf 4 (numberOf (partAt cells at 4)) ≡ partAt cells at 4 = rw length-part at (words-number (partAt cells at 4) (small-part w at 4)) in
+      let q : wordsOf 4 (numberOf (partAt cells at 4)) ≡ partAt cells at 4 = rw length-part at (words-number (partAt cells at 4) (part-words w at 4)) in
       q ∙ part-block e s
 
   -- digests are latched as stored
   pub digest-block : Words cells → rightsOf (here .kind) .lockable ≡ false → inDigest here (2 * at) ≡ true
       → wordsOf 4 (numberOf (partAt cells at 4)) ≡ listed rule at 4
-  digest-block w e d = plain-block w e (rw d (and-false (rightsOf (here .kind) .scrambled)))
+  digest-block w e d = plain-block w e (and-false (rightsOf (here .kind) .scrambled) (ap not d))
 
   -- data are latched in the clear
   pub data-block : Words cells → rightsOf (here .kind) .lockable ≡ false → inDigest here (2 * at) ≡ false
@@ -127,13 +108,6 @@ module _ (prims : Primitives) (map : Map) (fits : fit map ≡ true) (constants c
 
 -- ---- a block is stored
 
-sets-listed : (f : ℕ → ℕ) (n : ℕ) (xs : List ℕ) (at : ℕ) → at + n ≤ length xs → ((j : ℕ) → j < at → getD xs j 0 ≡ f j)
-    → (j : ℕ) → j < at + n → getD (sets xs at (listed f at n)) j 0 ≡ f j
-unfolding listed
-sets-listed f zero xs at h known j l = known j (omega arith)
-sets-listed f (suc n) xs at h known j l =
-    sets-listed f n (set xs at (f at)) (suc at) (rw length-set (omega arith)) (set-more f xs at (f at) (omega arith) refl known) j (omega arith)
-
 pub stored-block : (f : ℕ → ℕ) (xs ws : List ℕ) (at : ℕ) → at + 4 ≤ length xs → ws ≡ listed f at 4 → ((j : ℕ) → j < at → getD xs j 0 ≡ f j)
     → (j : ℕ) → j < at + 4 → getD (set (set (set (set xs at (getD ws 0 0)) (at + 1) (getD ws 1 0)) (at + 2) (getD ws 2 0)) (at + 3) (getD ws 3 0)) j 0 ≡ f j
 unfolding listed
@@ -141,4 +115,4 @@ stored-block f xs ws at h e known =
     let one : at + 1 ≡ suc at = omega arith in
     let two : at + 2 ≡ suc (suc at) = omega arith in
     let three : at + 3 ≡ suc (suc (suc at)) = omega arith in
-    rw (e, one, two, three) (sets-listed f 4 xs at h known)
+    rw (e, one, two, three) (sets-more f 4 xs at h known)

@@ -1,5 +1,5 @@
 -- How a power-up ends, against what the code finds. The idea: once it is known how it ends, the definitions compute at Map 1.
-use mathlib.Core.Path.{_≡_, refl, sym, ap, ap₂, _∙_}
+use mathlib.Core.Path.{_≡_, refl, sym, ap, ap₂}
 use mathlib.Core.Bool.{false}
 use mathlib.Core.List.{List, [], _∷_}
 use mathlib.Core.Option.{Option, none, some}
@@ -10,10 +10,9 @@ use borrow.Author.Tests.{eq-eqb, ne-eqb}
 use Rattle.basics.specs.Choice.{if_then_else_}
 use Rattle.basics.specs.Range.{listed}
 use Rattle.basics.proofs.Choice.{if-true, if-false}
-use Rattle.words.specs.Words.{partAt}
 use Rattle.words.proofs.Parts.{part-slice}
 use Rattle.partitions.specs.declared.Partition.{Partition}
-use Rattle.partitions.specs.Map.{rightsOf, partition, limit, kindNumber, numberOfKind}
+use Rattle.partitions.specs.Map.{rightsOf, partition, limit}
 use Rattle.partitions.specs.Map1.{map1}
 use Rattle.life_cycle.specs.declared.LifeCycle.{LifeCycle}
 use Rattle.life_cycle.specs.declared.LifeCycle.the-variants.{Valid, Invalid}
@@ -26,9 +25,10 @@ use Rattle.model.specs.declared.Answer.the-variants as answer
 use Rattle.model.specs.declared.Command.the-variants.{PowerUp}
 use Rattle.model.specs.declared.Outcome.{Outcome}
 use Rattle.model.specs.Lent.{Lent, Machine}
-use Rattle.model.specs.Commands.{storedDigest, counterAt, stateAt}
+use Rattle.model.specs.Commands.{storedDigest}
 use Rattle.model.specs.PowerUp.{digests, noLocks, Waking, fails, wakes, lifeCycleWaking, wakingOf, firstFailing, verdictOf, lifeCycleIn, copyWord, wokenCopy, wokenSession, wokenAnswer, waking}
 use Rattle.model.specs.Step.{obey, powerUp}
+use Rattle.model.proofs.LifeCyclePlace.{counter-place, state-place}
 use Rattle.chip.specs.Chip.{primitives, resultOf}
 use Rattle.power_up.specs.declared.Verdict.the-variants.{Passed, Failed}
 use Rattle.power_up.specs.Waking.{verdictIn, wokenResult, deadOutcome}
@@ -39,15 +39,12 @@ pub six-digests : (f : Partition → ℕ) → listed (λ n. f (partition map1 n)
 unfolding listed digests partition map1 rightsOf if_then_else_
 six-digests f = refl
 
-life-cycle-in : (l : Lent) → lifeCycleIn primitives map1 l ≡ decoded (l .constants) (partAt (l .cells) 404 24) (partAt (l .cells) 428 20)
-unfolding lifeCycleIn counterAt stateAt numberOfKind kindNumber partition map1 if_then_else_
-life-cycle-in l = refl
-
--- as the code takes them
 pub life-cycle-slices : (l : Lent) → length (l .cells) ≡ 448
     → decoded (l .constants) (take 24 (drop 404 (l .cells))) (take 20 (drop 428 (l .cells))) ≡ lifeCycleIn primitives map1 l
+unfolding lifeCycleIn
 life-cycle-slices l e =
-    ap₂ (decoded (l .constants)) (sym (part-slice (l .cells) 404 24 (omega arith))) (sym (part-slice (l .cells) 428 20 (omega arith))) ∙ sym (life-cycle-in l)
+    rw (← counter-place primitives, ← state-place primitives)
+    (ap₂ (decoded (l .constants)) (sym (part-slice (l .cells) 404 24 (omega arith))) (sym (part-slice (l .cells) 428 20 (omega arith))))
 
 -- ---- the two ends
 

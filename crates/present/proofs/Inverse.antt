@@ -5,7 +5,8 @@ use native.Mathlib.Omega.{arith}
 use lib.Bits.{bitXor, xor-lt}
 use lib.Dec.{lit<}
 use Rattle.basics.proofs.Bits.{xor-xor}
-use Rattle.present.specs.Present.{sBox, sBoxInverse, substitute, permute, permuteBack, roundKey, keyAfter, stateAfter, encryptBlock, blockBefore, decryptBlock}
+use Rattle.present.specs.Present.{sBox, sBoxInverse, substitute, permute, permuteBack, roundKey, keyAfter}
+use Rattle.present.specs.Present.{stateAfter, encryptBlock, blockBefore, decryptBlock}
 use Rattle.present.proofs.Boxes.{sBox-lt, sBoxInverse-lt, sBox-back, sBox-forth, substitute-lt, substitute-back}
 use Rattle.present.proofs.Permutation.{permute-lt, permuteBack-lt, permute-back, permute-forth}
 use Rattle.present.proofs.KeyRegister.{roundKey-lt}
@@ -44,11 +45,6 @@ stateAfter-lt key block zero l = l
 stateAfter-lt key block (suc i) l = permute-lt _
 
 module _ (key : ℕ) (lk : key < 2 ^ 128) where
-  blockBefore-lt : (state i : ℕ) → state < 2 ^ 64 → i < 32 → blockBefore key state i < 2 ^ 64
-  unfolding blockBefore
-  blockBefore-lt state zero l h = l
-  blockBefore-lt state (suc i) l h = blockBefore-lt _ i (back-lt _ state (roundKey-lt key i lk (omega arith)) l) (omega arith)
-
   rounds-back : (block i : ℕ) → block < 2 ^ 64 → i < 32 → blockBefore key (stateAfter key block i) i ≡ block
   unfolding stateAfter blockBefore
   rounds-back block zero l h = refl
@@ -75,10 +71,6 @@ added-lt key x lk lx = xor-lt 64 x (lastKey key) lx (roundKey-lt key 31 lk (lit<
 pub encrypt-lt : (key block : ℕ) → key < 2 ^ 128 → block < 2 ^ 64 → encryptBlock key block < 2 ^ 64
 unfolding encryptBlock
 encrypt-lt key block lk lb = added-lt key (stateAfter key block 31) lk (stateAfter-lt key block 31 lb)
-
-pub decrypt-lt : (key block : ℕ) → key < 2 ^ 128 → block < 2 ^ 64 → decryptBlock key block < 2 ^ 64
-unfolding decryptBlock
-decrypt-lt key block lk lb = blockBefore-lt key lk (bitXor block (lastKey key)) 31 (added-lt key block lk lb) (lit< tt)
 
 pub decrypt-encrypt : (key block : ℕ) → key < 2 ^ 128 → block < 2 ^ 64 → decryptBlock key (encryptBlock key block) ≡ block
 unfolding encryptBlock decryptBlock

@@ -10,12 +10,25 @@ use Rattle.basics.specs.Range.{sum}
 use Rattle.basics.specs.Digits.{digit}
 use Rattle.basics.proofs.Sum.{sum-upto}
 
-pub added : (f : ℕ → ℕ) (i out term : ℕ) → out ≡ sum i f → term ≡ f i → out + term ≡ sum (i + 1) f
-unfolding sum
-added f i out term so-far next = rw (so-far, next, add-one) (omega arith)
+-- the first i of n terms are added
+pub record Sums (f : ℕ → ℕ) (n out i : ℕ) : Type 0 where
+  pub within : i ≤ n
+  pub total : out ≡ sum i f
 
-pub part-lt : (f : ℕ → ℕ) (n i out : ℕ) → out ≡ sum i f → i ≤ n → sum n f < 2 ^ 64 → out < 2 ^ 64
-part-lt f n i out so-far h l = omega (arith, sum-upto n i f h)
+module _ {f : ℕ → ℕ} {n : ℕ} where
+  pub sums-none : Sums f n 0 0
+  unfolding sum
+  sums-none = record { within = omega arith; total = refl }
+
+  pub sums-more : {out term i : ℕ} → Sums f n out i → i < n → term ≡ f i → Sums f n (out + term) (i + 1)
+  unfolding sum
+  sums-more {i = i} s h next = record { within = omega arith; total = rw (s .total, next, add-one) (omega arith) }
+
+  pub sums-fit : {out i : ℕ} → Sums f n out i → sum n f < 2 ^ 64 → out < 2 ^ 64
+  sums-fit {i = i} s l = omega (arith, s .total, sum-upto n i f (s .within))
+
+  pub sums-all : {out i : ℕ} → Sums f n out i → n ≤ i → out ≡ sum n f
+  sums-all s h = s .total ∙ ap (λ (k : ℕ). sum k f) (omega (arith, s .within))
 
 -- `digit << at`, where nothing is shifted out
 pub shifted : (w d e at k : ℕ) → d ≡ e → at ≡ k → e < 2 ^ w → w + k ≤ 64 → d * 2 ^ at % 2 ^ 64 ≡ e * 2 ^ k

@@ -1,3 +1,4 @@
+pub mod Apart
 pub mod Numbers
 pub mod Records
 pub mod Digits

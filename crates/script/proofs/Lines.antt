@@ -1,18 +1,12 @@
 -- Laws of lines. The idea: with the digits known, a line computes.
-use mathlib.Core.Path.{_≡_, refl, sym, ap, _∙_}
+use mathlib.Core.Path.{_≡_, sym, ap, _∙_}
 use mathlib.Core.List.{List, _∷_, _++_}
 use Prim.Native.Nat.{ℕ, suc, _+_, _-_, _^_, _≤_, _<_}
 use native.Mathlib.Omega.{arith}
-use lib.ListN.{length, set, take, drop, replicate, length-append, length-replicate, replicate-append-replicate}
-use lib.Seq.{drop-at, set-at, append-snoc, take-append-seam}
-use Rattle.script.specs.Lines.{digits, lineOf, decimal, endLine, endLineOf}
+use lib.ListN.{length, set, drop, replicate, length-append, length-replicate, replicate-append-replicate}
+use lib.Seq.{drop-at, set-at, append-snoc}
+use Rattle.script.specs.Lines.{digits, decimal, endLine, endLineOf}
 use Rattle.script.proofs.Digits.{decimal-short, decimal-digits}
-
-pub line-length : (kind code value : ℕ) → length (lineOf kind code value) ≡ 23
-unfolding lineOf digits
-line-length kind code value = refl
-
--- ---- the end line
 
 pub end-length : (x : ℕ) → length (endLine x) ≡ 5 + length (decimal 20 x)
 unfolding endLine
@@ -37,10 +31,3 @@ end-written n x l e =
     let start : List ℕ = 101 ∷ 110 ∷ 100 ∷ 32 ∷ decimal 20 x in
     let at : length start ≡ 4 + n = omega arith in
     rw (d, z, m) (set-at start 0 (zeros (20 - n)) 10 (4 + n) at ∙ ap (λ (ys : List ℕ). 101 ∷ 110 ∷ 100 ∷ 32 ∷ ys) (sym (append-snoc (decimal 20 x) 10 (zeros (20 - n)))))
-
--- what a caller passes on: the first `len` bytes, which are there
-pub end-bytes : (x : ℕ) → take (endLineOf x .len) (endLineOf x .bytes) ≡ endLine x
-end-bytes x = take-append-seam (endLine x) (zeros (25 - length (endLine x)))
-
-pub end-fits : (x : ℕ) → endLineOf x .len ≤ 25
-end-fits x = omega (arith, end-length x, decimal-short 20 x)

@@ -116,14 +116,3 @@ led-record s p r (whole i k w) {c} {n} e =
 
 pub is-read : (s : List ℕ) (p : ℕ) {c : Command} {n : ℕ} → nextAt s p ≡ Record c n → IsRead s p c n
 is-read s p = led-record s p (nextAt s p) (led s p)
-
--- a script of at most 65,536 bytes is never too long
-pub not-too-long : (s : List ℕ) (p : ℕ) {q : ℕ} → length s ≤ 65536 → nextAt s p ≡ Refused TooLong q → ⊥
-not-too-long s p {q} short = led-long (nextAt s p) (led s p)
-  where
-    led-long : (r : Reading) → Led s p r → r ≡ Refused TooLong q → ⊥
-    led-long r (long h) e = omega arith
-    led-long r (past h) e = omega (arith, ap (tagOf N.the-type) e)
-    led-long r (strange h) e = let z : _≡_ {A = ℕ} 0 1 = cc in omega arith
-    led-long r (cut h) e = let z : _≡_ {A = ℕ} 0 1 = cc in omega arith
-    led-long r (whole i k w) e = omega (arith, ap (tagOf N.the-type) e)

@@ -1,13 +1,11 @@
 -- Laws of a file's words. The idea: word i is made of bytes 2 i and 2 i + 1, and a loop sets one word after the other.
 use Prim.Native.Nat.{ℕ, zero, suc, _+_, _*_, _/_, _%_, _≤_, _<_}
-use mathlib.Core.Path.{_≡_, refl, sym, ap, _∙_}
+use mathlib.Core.Path.{_≡_, refl}
 use mathlib.Core.Bool.{true, false}
 use mathlib.Core.List.{List, [], _∷_, _++_}
-use native.Mathlib.Numerals.{add-one}
 use native.Mathlib.Omega.{arith}
 use lib.Dec.{eqb, leb}
-use lib.ListN.{length, getD, set, take, drop, length-append, length-take, length-drop}
-use lib.Seq.{take-suc, take-all, drop-cons, append-snoc, length-take-le, set-at}
+use lib.ListN.{length, getD, drop}
 use borrow.Author.Tests.{le-leb, lt-leb}
 use Rattle.basics.proofs.Choice.{if-true, if-false, if-both}
 use Rattle.transcript.specs.Files.{pairs, fileWords, lentWords}
@@ -48,15 +46,6 @@ module _ (room : ℕ) (bytes : List ℕ) where
     unfolding lentWords
     lent-fits h = rw file-even (if-true _ _ (le-leb (length (pairs bytes)) room (omega (arith, pairs-length bytes))))
 
-file-short : (bytes : List ℕ) → length (fileWords bytes) ≤ length bytes / 2
-unfolding fileWords
-file-short bytes = if-both (λ (ws : List ℕ). length ws ≤ length bytes / 2) _ (pairs bytes) [] (λ _. omega (arith, pairs-length bytes)) (λ _. omega arith)
-
--- a file that fits is lent whole
-pub lent-whole : (room : ℕ) (bytes : List ℕ) → length bytes / 2 ≤ room → lentWords room bytes ≡ fileWords bytes
-unfolding lentWords
-lent-whole room bytes h = if-true _ _ (le-leb (length (fileWords bytes)) room (omega (arith, file-short bytes)))
-
 -- ---- what `file_words` ends with
 
 -- the words after a file was lent
@@ -65,19 +54,3 @@ Lent room bytes n old new = (n ≡ length (lentWords room bytes)) × (new ≡ le
 
 pub none-lent : (room : ℕ) (bytes words : List ℕ) → lentWords room bytes ≡ [] → Lent room bytes 0 words words
 none-lent room bytes words e = rw e (refl, refl)
-
-module _ (ps words : List ℕ) (i : ℕ) (within : i ≤ length ps) (fits : length ps ≤ length words) (ws : List ℕ) (set-so-far : ws ≡ take i ps ++ drop i words) where
-  pub filled-length : length ws ≡ length words
-  filled-length = rw set-so-far (simp (length-append, length-take, length-drop) (omega arith))
-
-  pub filled-more : (v : ℕ) → i < length ps → v ≡ getD ps i 0 → set ws i v ≡ take (i + 1) ps ++ drop (i + 1) words
-  filled-more v h e =
-      rw (set-so-far, add-one, drop-cons words i 0 (omega arith), e)
-      (set-at (take i ps) (getD words i 0) (drop (suc i) words) (getD ps i 0) i (length-take-le i ps within)
-      ∙ sym (append-snoc (take i ps) (getD ps i 0) (drop (suc i) words))
-      ∙ ap (λ (ys : List ℕ). ys ++ drop (suc i) words) (sym (take-suc ps i 0 h)))
-
-  pub filled-whole : (n : ℕ) → n ≡ length ps → n ≤ i → ws ≡ ps ++ drop n words
-  filled-whole n e h =
-      let q : i ≡ n = omega arith in
-      set-so-far ∙ rw q (ap (λ (ys : List ℕ). ys ++ drop n words) (take-all n ps (omega arith)))

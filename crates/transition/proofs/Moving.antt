@@ -3,14 +3,13 @@ use mathlib.Core.Path.{_≡_, refl, sym, ap, _∙_}
 use mathlib.Core.Bool.{true, false, not, _&&_}
 use mathlib.Core.List.{List}
 use Prim.Native.Nat.{ℕ, suc, _+_, _*_, _^_, _≤_, _<_}
-use lib.Dec.{leb}
+use lib.Dec.{leb, ltb}
 use borrow.Author.Tests.{le-leb, lt-leb, lt-ltb, le-ltb}
 use Rattle.basics.specs.Choice.{if_then_else_}
 use Rattle.basics.proofs.Choice.{if-true, if-false}
 use Rattle.words.specs.declared.Programmed.the-variants as programmed
 use Rattle.words.specs.Programming.{programAnswer, programCells}
 use Rattle.words.proofs.Programming.{by-answer, stored-refused}
-use Rattle.partitions.specs.Map.{partition, numberOfKind, kindNumber}
 use Rattle.partitions.specs.Map1.{map1}
 use Rattle.life_cycle.specs.Words.{counterWords, stateWords}
 use Rattle.life_cycle.specs.Transitions.{transition}
@@ -30,14 +29,6 @@ use Rattle.transition.specs.declared.Permit.{Permit}
 use Rattle.transition.specs.declared.Permit.the-variants.{Granted, Refused}
 use Rattle.transition.specs.Permit.{permitOf, inert, dead, movedAs}
 use Rattle.transition.proofs.Tokens.{permittedAct, entering}
-
-pub counter-place : 404 ≡ counterAt primitives map1
-unfolding counterAt numberOfKind kindNumber partition map1 if_then_else_
-counter-place = refl
-
-pub state-place : 428 ≡ stateAt primitives map1
-unfolding stateAt
-state-place = ap (λ (n : ℕ). n + 24) counter-place
 
 -- admitted, with a record whose state and count are in range
 pub record Known (m : Machine) : Type 0 where
@@ -61,16 +52,17 @@ module _ (copy k : List ℕ) (s : Session) where
 
   -- the state words are programmed
   moving : (cells : List ℕ) (m : Machine) (target : ℕ) → m .lent .constants ≡ k
-      → comesTo (moveAct primitives map1 m target) (machineOf cells copy k s)
-      ≡ resultOf (programCells cells (stateAt primitives map1) (stateWords k target)) copy k (movedAs s (programAnswer cells (stateAt primitives map1) (stateWords k target)))
+      → let at = stateAt primitives map1 in let ws = stateWords k target in
+      comesTo (moveAct primitives map1 m target) (machineOf cells copy k s) ≡ resultOf (programCells cells at ws) copy k (movedAs s (programAnswer cells at ws))
   unfolding moveAct
   moving cells m target c =
       let at = stateAt primitives map1 in
       let ws = stateWords k target in
+      let n = machineOf cells copy k s in
       rw c
       (by-answer (programAnswer cells at ws)
-      (λ e. program-done (machineOf cells copy k s) at ws die (say (Done 0) halt) e ∙ halted (programCells cells at ws) (Done 0) ∙ rw e)
-      (λ i e. program-refused (machineOf cells copy k s) at ws die (say (Done 0) halt) i e ∙ died cells i ∙ rw (e, stored-refused cells ws at i e)))
+      (λ e. program-done n at ws die (say (Done 0) halt) e ∙ halted (programCells cells at ws) (Done 0) ∙ rw e)
+      (λ i e. program-refused n at ws die (say (Done 0) halt) i e ∙ died cells i ∙ rw (e, stored-refused cells ws at i e)))
 
 module _ (cells copy k : List ℕ) (s : Session) (target high low : ℕ) where
   abbrev x : Command
@@ -82,9 +74,22 @@ module _ (cells copy k : List ℕ) (s : Session) (target high low : ℕ) where
   abbrev given : ℕ
   given = high * 2 ^ 64 + low
 
-  -- the counter words of one stroke more
+  -- the counter words of one stroke more, and their place
   abbrev stroke : List ℕ
   stroke = counterWords k (suc (s .count))
+
+  abbrev at : ℕ
+  at = counterAt primitives map1
+
+  -- what is left to decide once a stroke is left, and before that once the target is known and once the record is good
+  abbrev spendAct : Act
+  spendAct = program at stroke die (entryAct primitives map1 m (transition (s .state) target) target given)
+
+  abbrev strokeAct : Act
+  strokeAct = if not (ltb (s .count) 24) then say StrokesUsed halt else spendAct
+
+  abbrev targetAct : Act
+  targetAct = if not (leb target 20) then refuse UnknownTarget else strokeAct
 
   decided : admission m ≡ Accepted → (a : Act) → transitionAct primitives map1 m target given ≡ a → resultFor x m ≡ comesTo a m
   unfolding commandAct
@@ -95,39 +100,39 @@ module _ (cells copy k : List ℕ) (s : Session) (target high low : ℕ) where
   bad-record e r = sym (decided e (refuse NotReady) (if-true _ _ (ap not r)) ∙ said m NotReady stay)
 
   module _ (q : Known m) where
+    good : transitionAct primitives map1 m target given ≡ targetAct
+    unfolding transitionAct
+    good = if-false _ _ (ap not (q .good-record))
+
+    aimed : target ≤ 20 → (a : Act) → strokeAct ≡ a → resultFor x m ≡ comesTo a m
+    aimed h a f = decided (q .admitted-there) a (good ∙ if-false _ _ (ap not (le-leb _ _ h)) ∙ f)
+
     pub unknown-target : 20 < target → record { machine = m; answer = UnknownTarget } ≡ resultFor x m
-    unfolding transitionAct turned
-    unknown-target h =
-        sym (decided (q .admitted-there) (refuse UnknownTarget) (if-false _ _ (ap not (q .good-record)) ∙ if-true _ _ (ap not (lt-leb _ _ h))) ∙ said m UnknownTarget stay)
+    unfolding turned
+    unknown-target h = sym (decided (q .admitted-there) (refuse UnknownTarget) (good ∙ if-true _ _ (ap not (lt-leb _ _ h))) ∙ said m UnknownTarget stay)
 
     pub strokes-used : target ≤ 20 → 24 ≤ s .count → (o : Outcome) → o ≡ inert s StrokesUsed → resultOf cells copy k o ≡ resultFor x m
-    unfolding transitionAct
-    strokes-used h l o f =
-        rw f (sym (decided (q .admitted-there) (say StrokesUsed halt) (if-false _ _ (ap not (q .good-record)) ∙ if-false _ _ (ap not (le-leb _ _ h)) ∙ if-true _ _ (ap not (le-ltb _ _ l))) ∙ halted copy k s cells StrokesUsed))
+    strokes-used h l o f = rw f (sym (aimed h (say StrokesUsed halt) (if-true _ _ (ap not (le-ltb _ _ l))) ∙ halted copy k s cells StrokesUsed))
 
   module _ (q : Spendable m target) where
-    spending : resultFor x m ≡ comesTo (program (counterAt primitives map1) stroke die (entryAct primitives map1 m (transition (s .state) target) target given)) m
-    unfolding transitionAct
-    spending =
-        let r = q .known in
-        decided (r .admitted-there) _ (if-false _ _ (ap not (r .good-record)) ∙ if-false _ _ (ap not (le-leb _ _ (q .target-known))) ∙ if-false _ _ (ap not (lt-ltb _ _ (q .stroke-left))))
+    spending : resultFor x m ≡ comesTo spendAct m
+    spending = aimed (q .known) (q .target-known) _ (if-false _ _ (ap not (lt-ltb _ _ (q .stroke-left))))
 
     -- the stroke is programmed, or a cell refuses
-    module _ (after : List ℕ) (c : after ≡ programCells cells (counterAt primitives map1) stroke) where
-      pub stroke-refused : (cell : ℕ) → programAnswer cells (counterAt primitives map1) stroke ≡ programmed.Refused cell
+    module _ (after : List ℕ) (c : after ≡ programCells cells at stroke) where
+      pub stroke-refused : (cell : ℕ) → programAnswer cells at stroke ≡ programmed.Refused cell
           → (o : Outcome) → o ≡ dead s cell → resultOf after copy k o ≡ resultFor x m
       stroke-refused cell e o f =
-          rw (f, c, stored-refused cells stroke (counterAt primitives map1) cell e)
-          (sym (spending ∙ program-refused m (counterAt primitives map1) stroke die _ cell e ∙ died copy k s cells cell))
+          rw (f, c, stored-refused cells stroke at cell e) (sym (spending ∙ program-refused m at stroke die _ cell e ∙ died copy k s cells cell))
 
-      module _ (e : programAnswer cells (counterAt primitives map1) stroke ≡ programmed.Done) where
+      module _ (e : programAnswer cells at stroke ≡ programmed.Done) where
         asked : (p : Permit) → permitOf s copy k (transition (s .state) target) given ≡ p
             → resultFor x m ≡ comesTo (permittedAct p (moveAct primitives map1 m target)) (machineOf after copy k s)
         asked p f =
             rw (c, ← f)
             (spending
-            ∙ program-done m (counterAt primitives map1) stroke die _ e
-            ∙ entering m (machineOf (programCells cells (counterAt primitives map1) stroke) copy k s) target given (transition (s .state) target))
+            ∙ program-done m at stroke die _ e
+            ∙ entering m (machineOf (programCells cells at stroke) copy k s) target given (transition (s .state) target))
 
         pub not-permitted : (b : Answer) → permitOf s copy k (transition (s .state) target) given ≡ Refused b → (o : Outcome) → o ≡ inert s b
             → resultOf after copy k o ≡ resultFor x m

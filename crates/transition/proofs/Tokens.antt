@@ -20,6 +20,7 @@ use Rattle.model.specs.Session.{sensedAt, sensedLocked}
 use Rattle.model.specs.Lent.{Machine}
 use Rattle.model.specs.Acts.{halt, Act, say, compare}
 use Rattle.model.specs.Commands.{tokenKind, tokenSame, moveAct, lockedTokenAct, tokenAct, entryAct}
+use Rattle.model.specs.Step.{Result}
 use Rattle.chip.specs.Chip.{primitives}
 use Rattle.chip.proofs.Acting.{comesTo, compare-same, compare-other}
 use Rattle.transition.specs.declared.Permit.{Permit}
@@ -71,28 +72,33 @@ permittedAct Granted go = go
 permittedAct (Refused b) go = say b halt
 
 -- the machine m decides, and the act is performed on the machine n
-module _ (n : Machine) (go : Act) where
-  comparing : (test : List ℕ → Bool) → comesTo (compare test go (say TokenDiffers halt)) n ≡ comesTo (permittedAct (comparedAs (test (n .lent .copy))) go) n
-  unfolding comparedAs
-  comparing test =
-      by-cases (test (n .lent .copy))
-      (λ t. compare-same n test go _ t ∙ ap (λ (p : Permit). comesTo (permittedAct p go) n) (sym (if-true Granted (Refused TokenDiffers) t)))
-      (λ t. compare-other n test go _ t ∙ ap (λ (p : Permit). comesTo (permittedAct p go) n) (sym (if-false Granted (Refused TokenDiffers) t)))
+abbrev permitting : Machine → Act → Permit → Result
+permitting n go p = comesTo (permittedAct p go) n
+
+comparing : (n : Machine) (go : Act) (test : List ℕ → Bool)
+    → comesTo (compare test go (say TokenDiffers halt)) n ≡ permitting n go (comparedAs (test (n .lent .copy)))
+unfolding comparedAs
+comparing n go test =
+    by-cases (test (n .lent .copy)) (λ t. compare-same n test go _ t ∙ ap (permitting n go) (sym (if-true Granted (Refused TokenDiffers) t)))
+    (λ t. compare-other n test go _ t ∙ ap (permitting n go) (sym (if-false Granted (Refused TokenDiffers) t)))
 
 module _ (m n : Machine) (target given : ℕ) where
   abbrev move : Act
   move = moveAct primitives map1 m target
 
   locking : (token : Token)
-      → comesTo (lockedTokenAct primitives map1 m token target given) n ≡ comesTo (permittedAct (lockedPermit (m .session) (n .lent .copy) token given) move) n
+      → comesTo (lockedTokenAct primitives map1 m token target given) n ≡ permitting n move (lockedPermit (m .session) (n .lent .copy) token given)
   unfolding lockedTokenAct lockedPermit
   locking token =
+      let to : Act → Result = λ a. comesTo a n in
+      let unlocked = Refused TokenNotLocked in
       by-cases (sensedLocked (m .session) (numberOfKind map1 (tokenKind token)))
-      (λ t. ap (λ (a : Act). comesTo a n) (if-false _ _ (ap not t)) ∙ comparing n move _ ∙ ap (λ (p : Permit). comesTo (permittedAct p move) n) (sym (if-false (Refused TokenNotLocked) _ (ap not t))))
-      (λ t. ap (λ (a : Act). comesTo a n) (if-true _ _ (ap not t)) ∙ ap (λ (p : Permit). comesTo (permittedAct p move) n) (sym (if-true (Refused TokenNotLocked) _ (ap not t))))
+      (λ t. ap to (if-false _ _ (ap not t)) ∙ comparing n move _ ∙ ap (permitting n move) (sym (if-false unlocked _ (ap not t))))
+      (λ t. ap to (if-true _ _ (ap not t)) ∙ ap (permitting n move) (sym (if-true unlocked _ (ap not t))))
 
   asking : (token : Token)
-      → comesTo (tokenAct primitives map1 m token target given) n ≡ comesTo (permittedAct (tokenPermit (m .session) (n .lent .copy) (m .lent .constants) token given) move) n
+      → comesTo (tokenAct primitives map1 m token target given) n
+      ≡ permitting n move (tokenPermit (m .session) (n .lent .copy) (m .lent .constants) token given)
   unfolding tokenAct tokenPermit
   asking Nothing = refl
   asking RawUnlock = comparing n move _
@@ -101,7 +107,7 @@ module _ (m n : Machine) (target given : ℕ) where
   asking Rma = locking Rma
 
   pub entering : (e : Entry)
-      → comesTo (entryAct primitives map1 m e target given) n ≡ comesTo (permittedAct (permitOf (m .session) (n .lent .copy) (m .lent .constants) e given) move) n
+      → comesTo (entryAct primitives map1 m e target given) n ≡ permitting n move (permitOf (m .session) (n .lent .copy) (m .lent .constants) e given)
   unfolding entryAct permitOf
   entering Forbidden = refl
   entering (Allowed token) = asking token

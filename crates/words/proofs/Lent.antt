@@ -4,11 +4,10 @@ use mathlib.Core.Bool.{Bool, true, false}
 use mathlib.Core.List.{List, [], _∷_, _++_, append-nil, append-assoc}
 use Prim.Native.Nat.{ℕ, suc, _+_, _≤_, _<_}
 use native.Mathlib.Nat.{add-zero, add-suc}
-use native.Mathlib.Numerals.{add-one}
 use native.Mathlib.Omega.{arith}
 use lib.Dec.{ltb}
 use lib.ListN.{length, getD, set, take, drop, length-drop, length-set, take-append-drop, List·getD-eq-default}
-use lib.Seq.{sets, sets-eq, getD-take, getD-drop, drop-drop, drop-length, drop-cons, take-suc, take-all, take-length, append-snoc, set-at, length-take-le}
+use lib.Seq.{sets, sets-eq, getD-take, getD-drop, drop-drop, drop-length, drop-cons, take-all, length-take-le}
 use borrow.Author.Tests.{ltb-true, ltb-false}
 use Rattle.basics.specs.Choice.{if_then_else_}
 use Rattle.basics.proofs.Choice.{by-cases}
@@ -18,7 +17,7 @@ use Rattle.words.specs.Programming.{refuses, programAnswer, programCells
 use Rattle.words.proofs.Parts.{sets-past}
 use Rattle.words.proofs.Programming.{answer-next, answer-stop, blank-passes, by-answer, refused-lowest, stored-done, stored-refused}
 
--- ---- the loop over a part: one word more is tested, one word more is stored
+-- ---- the loop over a part: one word more is tested
 
 pub tested-next : (ss vs : List ℕ) (i : ℕ) → i < length vs → refuses (getD ss i 0) (getD vs i 0) ≡ false
     → programAnswer ss i (drop i vs) ≡ programAnswer ss (suc i) (drop (suc i) vs)
@@ -30,14 +29,6 @@ tested-stop ss vs i h e = rw (drop-cons vs i 0 h) (answer-stop ss (drop (suc i) 
 pub tested-end : (ss vs : List ℕ) → programAnswer ss (length vs) (drop (length vs) vs) ≡ Done
 unfolding programAnswer
 tested-end ss vs = rw (drop-length vs)
-
-pub store-next : (ss vs : List ℕ) (i : ℕ) → i < length ss → i < length vs → set (take i vs ++ drop i ss) i (getD vs i 0) ≡ take (i + 1) vs ++ drop (i + 1) ss
-store-next ss vs i a b =
-    rw (add-one i, take-suc vs i 0 b, append-snoc, drop-cons ss i 0 a)
-    (set-at (take i vs) (getD ss i 0) (drop (suc i) ss) (getD vs i 0) i (length-take-le i vs (omega arith)))
-
-pub store-end : (ss vs : List ℕ) → length ss ≡ length vs → take (length ss) vs ++ drop (length ss) ss ≡ vs
-store-end ss vs e = rw (drop-length ss, e, take-length vs) (append-nil vs)
 
 -- the whole part becomes the value
 pub sets-whole : (ss vs : List ℕ) → length ss ≡ length vs → sets ss 0 vs ≡ vs
@@ -89,57 +80,58 @@ part-answer (v ∷ vs) c p at i h =
 
 -- the n cells from `at` on are lent with the lowest n words of the value; n is short of the value only where the array ends
 module _ (c vs : List ℕ) (at n : ℕ) (inside : at + n ≤ length c) (some : n ≤ length vs) (all : n < length vs → length c ≤ at + n) where
-  length-lent : length (take n (drop at c)) ≡ n
-  length-lent = length-take-le n (drop at c) (simp length-drop (omega arith))
+  abbrev part : List ℕ
+  part = take n (drop at c)
 
-  pub same-lengths : length (take n (drop at c)) ≡ length (take n vs)
-  same-lengths = length-lent ∙ sym (length-take-le n vs some)
+  abbrev value : List ℕ
+  value = take n vs
+
+  value-length : length value ≡ n
+  value-length = length-take-le n vs some
+
+  pub same-lengths : length part ≡ length value
+  same-lengths = length-take-le n (drop at c) (simp length-drop (omega arith)) ∙ sym value-length
 
   -- leaving the words past the last cell out changes nothing
-  left-out {ℓ} : {X : Type ℓ} (f : List ℕ → X) → (length c ≤ at + length (take n vs) → f (take n vs ++ drop n vs) ≡ f (take n vs)) → f vs ≡ f (take n vs)
+  left-out {ℓ} : {X : Type ℓ} (f : List ℕ → X) → (length c ≤ at + length value → f (value ++ drop n vs) ≡ f value) → f vs ≡ f value
   left-out f h =
-      by-cases (ltb n (length vs))
-      (λ t. let l : length c ≤ at + length (take n vs) = omega (arith, all (ltb-true _ _ t), length-take-le n vs some) in ap f (sym (take-append-drop n vs)) ∙ h l)
+      by-cases (ltb n (length vs)) (λ t. ap f (sym (take-append-drop n vs)) ∙ h (omega (arith, all (ltb-true _ _ t), value-length)))
       (λ t. ap f (sym (take-all n vs (ltb-false _ _ t))))
 
-  pub lent-answer : counted at (programAnswer (take n (drop at c)) 0 (take n vs)) ≡ programAnswer c at vs
+  lent-answer : counted at (programAnswer part 0 value) ≡ programAnswer c at vs
   lent-answer =
-      sym (part-answer (take n vs) c (take n (drop at c)) at 0 (λ j l u. sym (getD-take n (drop at c) j 0 (omega (arith, length-take-le n vs some)) ∙ getD-drop at c j 0)))
-      ∙ ap (λ (i : ℕ). programAnswer c i (take n vs)) (add-zero at)
-      ∙ sym (left-out (programAnswer c at) (front-answer (take n vs) (drop n vs) c at))
+      sym (part-answer value c part at 0 (λ j l u. sym (getD-take n (drop at c) j 0 (omega (arith, value-length)) ∙ getD-drop at c j 0)))
+      ∙ ap (λ (i : ℕ). programAnswer c i value) (add-zero at)
+      ∙ sym (left-out (programAnswer c at) (front-answer value (drop n vs) c at))
 
-  done-cells : programAnswer (take n (drop at c)) 0 (take n vs) ≡ Done
-      → take at c ++ (programCells (take n (drop at c)) 0 (take n vs) ++ drop n (drop at c)) ≡ programCells c at vs
+  -- the array once the part is handed back
+  abbrev back : List ℕ → List ℕ
+  back x = take at c ++ (x ++ drop n (drop at c))
+
+  done-cells : programAnswer part 0 value ≡ Done → back (programCells part 0 value) ≡ programCells c at vs
   done-cells e =
-      let d : programAnswer c at vs ≡ Done = sym lent-answer ∙ ap (counted at) e in
-      let l : at + length (take n vs) ≤ length c = omega (arith, length-take-le n vs some) in
-      ap (λ (x : List ℕ). take at c ++ (x ++ drop n (drop at c))) (stored-done (take n (drop at c)) (take n vs) 0 e ∙ sets-whole (take n (drop at c)) (take n vs) same-lengths)
-      ∙ ap (λ (x : List ℕ). take at c ++ (take n vs ++ x)) (drop-drop n at c ∙ ap (λ (k : ℕ). drop (at + k) c) (sym (length-take-le n vs some)))
-      ∙ sym (append-assoc (take at c) (take n vs) _)
-      ∙ sym (sets-eq (take n vs) c at l)
-      ∙ sym (left-out (sets c at) (front-sets (take n vs) (drop n vs) c at))
-      ∙ sym (stored-done c vs at d)
+      ap back (stored-done part value 0 e ∙ sets-whole part value same-lengths)
+      ∙ ap (λ (x : List ℕ). take at c ++ (value ++ x)) (drop-drop n at c ∙ ap (λ (k : ℕ). drop (at + k) c) (sym value-length))
+      ∙ sym (append-assoc (take at c) value _)
+      ∙ sym (sets-eq value c at (omega (arith, value-length)))
+      ∙ sym (left-out (sets c at) (front-sets value (drop n vs) c at))
+      ∙ sym (stored-done c vs at (sym lent-answer ∙ ap (counted at) e))
 
-  refused-cells : (i : ℕ) → programAnswer (take n (drop at c)) 0 (take n vs) ≡ Refused i
-      → take at c ++ (programCells (take n (drop at c)) 0 (take n vs) ++ drop n (drop at c)) ≡ programCells c at vs
+  refused-cells : (i : ℕ) → programAnswer part 0 value ≡ Refused i → back (programCells part 0 value) ≡ programCells c at vs
   refused-cells i e =
-      ap (λ (x : List ℕ). take at c ++ (x ++ drop n (drop at c))) (stored-refused (take n (drop at c)) (take n vs) 0 i e)
+      ap back (stored-refused part value 0 i e)
       ∙ ap (λ (x : List ℕ). take at c ++ x) (take-append-drop n (drop at c))
       ∙ take-append-drop at c
       ∙ sym (stored-refused c vs at (at + i) (sym lent-answer ∙ ap (counted at) e))
 
-  -- what the array holds once the part is handed back
-  pub lent-cells : take at c ++ (programCells (take n (drop at c)) 0 (take n vs) ++ drop n (drop at c)) ≡ programCells c at vs
-  lent-cells = by-answer (programAnswer (take n (drop at c)) 0 (take n vs)) done-cells refused-cells
-
-  -- both, as code meets them: the part of k cells has been programmed and handed back
-  pub handed-back : (k : ℕ) → k ≡ n → {r : Programmed} {part : List ℕ}
-      → r ≡ programAnswer (take k (drop at c)) 0 (take n vs) → part ≡ programCells (take k (drop at c)) 0 (take n vs)
-      → (counted at r ≡ programAnswer c at vs) × (take at c ++ (part ++ drop k (drop at c)) ≡ programCells c at vs)
-  handed-back k e a b = rw (a, b, e) (lent-answer, lent-cells)
+  -- as code meets them: the part of k cells has been programmed and handed back
+  pub handed-back : (k : ℕ) → k ≡ n → {r : Programmed} {new : List ℕ}
+      → r ≡ programAnswer (take k (drop at c)) 0 value → new ≡ programCells (take k (drop at c)) 0 value
+      → (counted at r ≡ programAnswer c at vs) × (take at c ++ (new ++ drop k (drop at c)) ≡ programCells c at vs)
+  handed-back k e a b = rw (a, b, e) (lent-answer, by-answer (programAnswer part 0 value) done-cells refused-cells)
 
   -- a refusing word lies within the part
-  pub refused-within : (k : ℕ) → k ≡ n → (i : ℕ) → programAnswer (take k (drop at c)) 0 (take n vs) ≡ Refused i → i < n
+  pub refused-within : (k : ℕ) → k ≡ n → (i : ℕ) → programAnswer (take k (drop at c)) 0 value ≡ Refused i → i < n
   refused-within k e i a =
-      let l = refused-lowest (take n vs) (take k (drop at c)) 0 i a in
-      omega (arith, l .place, l .inside, length-take-le n vs some)
+      let l = refused-lowest value (take k (drop at c)) 0 i a in
+      omega (arith, l .place, l .inside, value-length)

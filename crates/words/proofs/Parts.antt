@@ -1,8 +1,7 @@
 -- Laws of parts of an array, and of what storing a value there leaves. The idea: `sets` goes word by word, so every law is an induction on the value.
 use mathlib.Core.Path.{_≡_, refl, sym, ap, ap₂, _∙_}
-use mathlib.Core.Bool.{true, false}
 use mathlib.Core.List.{List, [], _∷_}
-use Prim.Native.Nat.{ℕ, zero, suc, _+_, _-_, _≤_, _<_}
+use Prim.Native.Nat.{ℕ, zero, suc, _+_, _*_, _-_, _^_, _≤_, _<_}
 use native.Mathlib.Nat.{add-suc}
 use native.Mathlib.Omega.{arith}
 use lib.ListN.{length, getD, set, take, drop, length-set, length-drop, drop-of-length-le, List·getD-eq-default}
@@ -13,16 +12,29 @@ use Rattle.basics.specs.Range.{listed}
 use Rattle.basics.proofs.Choice.{by-cases}
 use Rattle.basics.proofs.Range.{length-listed}
 use Rattle.words.specs.Words.{numberOf, partAt}
+use Rattle.words.proofs.Words.{Words, number-lt}
 
 pub length-part : (c : List ℕ) (at n : ℕ) → length (partAt c at n) ≡ n
 unfolding partAt
 length-part c at n = length-listed _ at n
 
+pub part-words : {c : List ℕ} → Words c → (at n : ℕ) → Words (partAt c at n)
+unfolding partAt listed
+part-words w at n = record { small = small w at n }
+  where
+    small : {c : List ℕ} → Words c → (at n i : ℕ) → getD (listed (λ j. getD c j 0) at n) i 0 < 65536
+    small w at zero i = omega arith
+    small w at (suc n) zero = w .small at
+    small w at (suc n) (suc i) = small w (suc at) n i
+
+pub part-number-lt : {c : List ℕ} → Words c → (at n : ℕ) → numberOf (partAt c at n) < 65536 ^ n
+part-number-lt {c} w at n = rw length-part at (number-lt (partAt c at n) (part-words w at n))
+
 -- a part depends on its words alone
 pub part-same : (c d : List ℕ) (at n : ℕ) → ((j : ℕ) → at ≤ j → j < at + n → getD c j 0 ≡ getD d j 0) → partAt c at n ≡ partAt d at n
 unfolding partAt listed
 part-same c d at zero h = refl
-part-same c d at (suc n) h = ap₂ (λ (x : ℕ) (l : List ℕ). x ∷ l) (h at (omega arith) (omega arith)) (part-same c d (suc at) n (λ j l u. h j (omega arith) (omega arith)))
+part-same c d at (suc n) h = rw (h at (omega arith) (omega arith), part-same c d (suc at) n (λ j l u. h j (omega arith) (omega arith)))
 
 -- a part inside the array is the slice that code takes
 pub part-slice : (c : List ℕ) (at n : ℕ) → at + n ≤ length c → partAt c at n ≡ take n (drop at c)
@@ -46,30 +58,27 @@ unfolding partAt listed numberOf
 zeros-past c at zero h = refl
 zeros-past c at (suc n) h = rw (List·getD-eq-default c 0 {n = at} h, zeros-past c (suc at) n (omega arith))
 
-number-none : (c : List ℕ) (at : ℕ) → numberOf (partAt c at 0) ≡ numberOf (take 0 (drop at c))
-unfolding partAt listed
-number-none c at = refl
-
-number-more : (c : List ℕ) (at n : ℕ) → at < length c → numberOf (partAt c (suc at) n) ≡ numberOf (take n (drop (suc at) c))
-    → numberOf (partAt c at (suc n)) ≡ numberOf (take (suc n) (drop at c))
-unfolding partAt listed numberOf
-number-more c at n h ih = rw (drop-cons c at 0 h, ih)
-
 number-past : (c : List ℕ) (at n : ℕ) → length c ≤ at → numberOf (take n (drop at c)) ≡ 0
 unfolding numberOf
 number-past c at n h = rw (drop-of-length-le c {i = at} h, take-nil)
 
 -- the zeros past the end add nothing to the number
 pub number-part : (c : List ℕ) (at n : ℕ) → numberOf (partAt c at n) ≡ numberOf (take n (drop at c))
-number-part c at zero = number-none c at
-number-part c at (suc n) = by-cases (ltb at (length c)) (inside (number-part c (suc at) n)) past
-  where
-    inside : numberOf (partAt c (suc at) n) ≡ numberOf (take n (drop (suc at) c)) → ltb at (length c) ≡ true
-        → numberOf (partAt c at (suc n)) ≡ numberOf (take (suc n) (drop at c))
-    inside ih t = number-more c at n (ltb-true _ _ t) ih
+unfolding partAt listed numberOf
+number-part c at zero = refl
+number-part c at (suc n) =
+    let rest = number-part c (suc at) n in
+    by-cases (ltb at (length c)) (λ t. rw (drop-cons c at 0 (ltb-true _ _ t), rest))
+    (λ t. zeros-past c at (suc n) (ltb-false _ _ t) ∙ sym (number-past c at (suc n) (ltb-false _ _ t)))
 
-    past : ltb at (length c) ≡ false → numberOf (partAt c at (suc n)) ≡ numberOf (take (suc n) (drop at c))
-    past t = zeros-past c at (suc n) (ltb-false _ _ t) ∙ sym (number-past c at (suc n) (ltb-false _ _ t))
+-- the number of eight words, by its high and its low half
+pub number-halves : (c : List ℕ) (at : ℕ) → numberOf (partAt c (at + 4) 4) * 2 ^ 64 + numberOf (partAt c at 4) ≡ numberOf (partAt c at 8)
+unfolding partAt listed numberOf
+number-halves c at =
+    let e : at + 4 ≡ suc (suc (suc (suc at))) = omega arith in
+    rw e (omega arith)
+
+-- ---- storing a value
 
 pub sets-elsewhere : (vs c : List ℕ) (at j : ℕ) → (at ≤ j → j < at + length vs → ⊥) → getD (sets c at vs) j 0 ≡ getD c j 0
 sets-elsewhere [] c at j h = refl

@@ -7,13 +7,13 @@ use native.Mathlib.Nat.{le-refl, le-trans, add-zero, add-suc, suc-add}
 use native.Mathlib.Omega.{arith}
 use lib.Bits.{bitOr, or-zero-l}
 use lib.Dec.{eqb, ltb}
-use lib.ListN.{length, getD, set}
+use lib.ListN.{length, getD, set, List·getD-eq-default}
 use lib.Seq.{sets, length-sets, getD-set-same, getD-set-other, set-out}
 use borrow.Author.Tests.{eqb-true, eqb-false, ne-eqb, ltb-true, ltb-false}
 use Rattle.basics.specs.Choice.{if_then_else_}
 use Rattle.basics.specs.Range.{listed}
 use Rattle.basics.specs.Digits.{bit}
-use Rattle.basics.proofs.Choice.{by-cases, if-true, if-false}
+use Rattle.basics.proofs.Choice.{by-cases, true-not-false, if-true, if-false}
 use Rattle.basics.proofs.Range.{none-at, none-below}
 use Rattle.basics.proofs.Digits.{digit-lt}
 use Rattle.basics.proofs.Bits.{bit-or, or-covered}
@@ -133,6 +133,13 @@ refused-lowest (v ∷ vs) c at i e = by-cases (refuses (getD c at 0) v) here (la
           lower = lower (r .offset) t (r .lower);
         }
 
+-- a refusing cell holds a bit, so it is one of the cells
+pub refused-inside : (c vs : List ℕ) (at i : ℕ) → programAnswer c at vs ≡ Refused i → i < length c
+refused-inside c vs at i e =
+    let r = refused-lowest vs c at i e in
+    by-cases (ltb i (length c)) (ltb-true _ _)
+    (λ t. absurd (true-not-false (r .refused) (rw (List·getD-eq-default c 0 {n = i} (ltb-false _ _ t)) (blank-passes (getD vs (r .offset) 0)))))
+
 -- ---- the cells
 
 pub stored-done : (c vs : List ℕ) (at : ℕ) → programAnswer c at vs ≡ Done → programCells c at vs ≡ sets c at vs
@@ -172,7 +179,10 @@ kept-trans f g = record { bits = λ j i h. le-trans (f .bits j i h) (g .bits j i
 
 kept-set : (c : List ℕ) (at v : ℕ) → refuses (getD c at 0) v ≡ false → Kept c (set c at v)
 unfolding refuses
-kept-set c at v e = record { bits = λ j i h. by-cases (eqb j at) (λ t. rw (eqb-true j at t) (here i h)) (λ t. rw (getD-set-other c at j v 0 (eqb-false j at t)) (le-refl _)) }
+kept-set c at v e =
+    record {
+      bits = λ j i h. by-cases (eqb j at) (λ t. rw (eqb-true j at t) (here i h)) (λ t. rw (getD-set-other c at j v 0 (eqb-false j at t)) (le-refl _));
+    }
   where
     here : (i : ℕ) → i < 16 → bit (getD c at 0) i ≤ bit (getD (set c at v) at 0) i
     here i h =

@@ -1,8 +1,8 @@
 -- Laws of words and numbers, over the number of words. The idea: one word is one digit to the base 65536, so each law is an induction on the words.
-use mathlib.Core.Path.{_≡_, refl, ap}
+use mathlib.Core.Path.{_≡_, refl, ap, _∙_}
 use mathlib.Core.List.{List, [], _∷_}
 use Prim.Native.Nat.{ℕ, zero, suc, _+_, _*_, _/_, _%_, _^_, _≤_, _<_}
-use native.Mathlib.Nat.{pow-suc, pow-le-pow-right, lt-of-lt-of-le}
+use native.Mathlib.Nat.{pow-suc, pow-le-pow-right, lt-of-lt-of-le, mod-eq-of-lt}
 use native.Mathlib.Omega.{arith}
 use lib.Pow.{mod-pow-add}
 use lib.ListN.{length, getD, take, drop, length-drop}
@@ -24,15 +24,6 @@ unfolding wordsOf
 length-words zero x = refl
 length-words (suc n) x = ap suc (length-words n (x / 65536))
 
-word-small : (n x i : ℕ) → getD (wordsOf n x) i 0 < 65536
-unfolding wordsOf
-word-small zero x i = omega arith
-word-small (suc n) x zero = omega arith
-word-small (suc n) x (suc i) = word-small n (x / 65536) i
-
-pub words-small : (n x : ℕ) → Words (wordsOf n x)
-words-small n x = record { small = word-small n x }
-
 pub number-lt : (ws : List ℕ) → Words ws → numberOf ws < 65536 ^ length ws
 unfolding numberOf
 number-lt [] h = omega arith
@@ -46,6 +37,9 @@ number-words (suc n) x =
     let ih : numberOf (wordsOf n (x / 65536)) ≡ x / 65536 % 2 ^ (16 * n) = number-words n (x / 65536) in
     let e : 16 * suc n ≡ 16 * n + 16 = omega arith in
     rw e (omega (arith, mod-pow-add x (16 * n) 16))
+
+pub number-block : (x : ℕ) → x < 2 ^ 64 → numberOf (wordsOf 4 x) ≡ x
+number-block x h = number-words 4 x ∙ mod-eq-of-lt h
 
 -- as many words as there are give the words back
 pub words-number : (ws : List ℕ) → Words ws → wordsOf (length ws) (numberOf ws) ≡ ws

@@ -5,14 +5,8 @@ use borrow.Author.Needs.{needs}
 use Rattle.answers.proofs.first.Statement.{statement}
 use Rattle.answers.proofs.first.Tie as tie
 
-at-most-requires : tie.Need-at-most-requires
-at-most-requires c κs = search needs
-
 slice-aggregate-result : tie.Need-slice-aggregate-result
 slice-aggregate-result c = sym (length-take-le (c .before .at-most .result) (c .before .before .before .args .words .now) (search needs))
 
-returns : tie.Need-returns
-returns c = search needs
-
 pub first-spec : {M : Type 1} → statement M
-first-spec = tie.close (tie.spec at-most-requires slice-aggregate-result returns)
+first-spec = tie.close (tie.spec (λ c κs. search needs) slice-aggregate-result (λ c. search needs))

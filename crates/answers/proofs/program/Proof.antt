@@ -1,45 +1,17 @@
 -- A refusing cell holds a bit, so it is one of the cells, and one more than its index fits.
-use mathlib.Core.Path.{_≡_, sym, _∙_}
-use mathlib.Core.Bool.{true, false}
-use mathlib.Core.List.{List}
-use Prim.Native.Nat.{ℕ, _≤_, _<_}
+use mathlib.Core.Path.{sym, _∙_}
 use native.Mathlib.Omega.{arith}
-use lib.ListN.{length, getD, take, List·getD-eq-default}
+use lib.ListN.{take}
 use lib.Seq.{length-take-le}
 use borrow.Author.Needs.{needs}
-use Rattle.words.specs.declared.Programmed.the-variants.{Refused}
-use Rattle.words.specs.Programming.{refuses, programAnswer}
-use Rattle.words.proofs.Programming.{blank-passes, refused-lowest}
+use Rattle.words.proofs.Programming.{refused-inside}
 use Rattle.answers.proofs.program.Statement.{statement}
 use Rattle.answers.proofs.program.Tie as tie
-
-refused-inside : (c vs : List ℕ) (at i : ℕ) → programAnswer c at vs ≡ Refused i → i < length c
-refused-inside c vs at i e =
-    let r = refused-lowest vs c at i e in
-    omega (arith, out _ (r .refused))
-  where
-    out : (v : ℕ) → refuses (getD c i 0) v ≡ true → length c ≤ i → ⊥
-    out v s h =
-        let f : refuses (getD c i 0) v ≡ false = rw (List·getD-eq-default c 0 {n = i} h) (blank-passes v) in
-        let z : _≡_ {A = ℕ} 0 1 = cc in
-        omega arith
-
-slice-relend-prefix-program : tie.Need-slice-relend-prefix-program
-slice-relend-prefix-program c = search needs
 
 slice-aggregate-program : tie.Need-slice-aggregate-program
 slice-aggregate-program c =
     let o = c .before .before .before in
     sym (length-take-le (o .args .n) (o .args .cells .now) (search needs))
-
-program-requires : tie.Need-program-requires
-program-requires c κs = search needs
-
-enum-told : tie.Need-enum-told
-enum-told c = search needs
-
-enum-known-i : tie.Need-enum-known-i
-enum-known-i c = search needs
 
 add-result : tie.Need-add-result
 add-result c =
@@ -50,29 +22,17 @@ add-result c =
     let inside = refused-inside part (o .args .value .now) (o .args .at) (i .0 .0) (sym (p .program .ensures .0) ∙ i .1) in
     omega (arith, inside, length-take-le (o .args .n) (o .args .cells .now) (search needs), o .good .0 .0)
 
-same-length : tie.Need-same-length
-same-length c = search needs
-
-returns : tie.Need-returns
-returns c = search needs
-
-same-length-2 : tie.Need-same-length-2
-same-length-2 c = search needs
-
-returns-2 : tie.Need-returns-2
-returns-2 c = search needs
-
 pub program-spec : {M : Type 1} → statement M
 program-spec =
     tie.close
     (tie.spec
-    slice-relend-prefix-program
+    (λ c. search needs)
     slice-aggregate-program
-    program-requires
-    enum-told
-    enum-known-i
+    (λ c κs. search needs)
+    (λ c. search needs)
+    (λ c. search needs)
     add-result
-    same-length
-    returns
-    same-length-2
-    returns-2)
+    (λ c. search needs)
+    (λ c. search needs)
+    (λ c. search needs)
+    (λ c. search needs))

@@ -1,8 +1,7 @@
 -- Two numbers of four words; past the end all are zero.
 use mathlib.Core.Path.{sym, ap₂, _∙_}
 use Prim.Native.Nat.{ℕ, _+_, _*_, _^_}
-use Rattle.words.proofs.Parts.{zeros-past}
-use Rattle.chip.proofs.Reading.{number-halves}
+use Rattle.words.proofs.Parts.{zeros-past, number-halves}
 use borrow.Author.Needs.{needs}
 use Rattle.chip.proofs.eight_words.Statement.{statement}
 use Rattle.chip.proofs.eight_words.Tie as tie

@@ -7,12 +7,9 @@ use Rattle.digest.specs.Digest.{absorb}
 use Rattle.digest.proofs.absorbed.Statement.{statement}
 use Rattle.digest.proofs.absorbed.Tie as tie
 
-encrypt-requires : tie.Need-encrypt-requires
-encrypt-requires c κs = search needs
-
 returns : tie.Need-returns
 unfolding absorb
 returns c = ap (λ (x : ℕ). bitXor x (c .before .args .state)) (c .encrypt .ensures)
 
 pub absorbed-spec : {M : Type 1} → statement M
-absorbed-spec = tie.close (tie.spec encrypt-requires returns)
+absorbed-spec = tie.close (tie.spec (λ c κs. search needs) returns)

@@ -11,15 +11,6 @@ use Rattle.digest.proofs.absorbed_rest.Tie as tie
 returns : tie.Need-returns
 returns c = sym (absorb-none (c .before .before .args .state) (c .before .before .args .words .now) (c .if1 .taken))
 
-block-at-requires : tie.Need-block-at-requires
-block-at-requires c κs = search needs
-
-block-at-requires-2 : tie.Need-block-at-requires-2
-block-at-requires-2 c κs = search needs
-
-absorbed-requires : tie.Need-absorbed-requires
-absorbed-requires c κs = search needs
-
 returns-2 : tie.Need-returns-2
 returns-2 c =
     let o = c .before .before .before .before .before in
@@ -30,4 +21,4 @@ returns-2 c =
 
 pub absorbed-rest-spec : {M : Type 1} → statement M
 absorbed-rest-spec =
-    tie.close (tie.spec returns block-at-requires block-at-requires-2 absorbed-requires returns-2)
+    tie.close (tie.spec returns (λ c κs. search needs) (λ c κs. search needs) (λ c κs. search needs) returns-2)

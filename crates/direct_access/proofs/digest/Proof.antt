@@ -1,16 +1,22 @@
 -- No place, no right, or the digest's location is programmed with what is computed over the data words.
-use mathlib.Core.Path.{_≡_, sym, ap, _∙_}
+use mathlib.Core.Path.{_≡_, sym, ap, ap₂, _∙_}
+use mathlib.Core.List.{List}
+use Prim.Native.Nat.{ℕ, _/_}
 use native.Mathlib.Omega.{arith}
 use borrow.Author.Tests.{not-true, not-false}
 use Rattle.words.specs.declared.Programmed.{Programmed}
+use Rattle.words.specs.Words.{wordsOf}
+use Rattle.partitions.specs.declared.Partition.{Partition}
+use Rattle.model.specs.declared.Answer.the-variants.{Done}
 use Rattle.model.specs.Lent.{Machine}
+use Rattle.model.specs.Acts.{stay, say, program}
 use Rattle.chip.specs.Chip.{machineOf}
 use Rattle.chip.proofs.Reading.{data-digest}
 use Rattle.direct_access.specs.declared.Reached.the-variants.{At}
 use Rattle.direct_access.specs.Access.{programmedAnswer}
 use Rattle.direct_access.proofs.Places.{held}
-use Rattle.direct_access.proofs.Results.{reached}
-use Rattle.direct_access.proofs.Commands.{digest-stopped, digest-denied, digest-done}
+use Rattle.direct_access.proofs.Decisions.{digestNow, digest-decided}
+use Rattle.direct_access.proofs.Results.{reached, stopped, denied, burnt}
 use borrow.Author.Needs.{needs}
 use Rattle.direct_access.proofs.digest.Statement.{statement}
 use Rattle.direct_access.proofs.digest.Tie as tie
@@ -29,18 +35,19 @@ may-digest-requires c κs = search needs
 
 -- what is lent, and the place that was reached
 abbrev start : tie.After-reach → tie.Start
-start t = t .before .before .before .before
+start r = r .before .before .before .before
 
-abbrev lent : tie.Start → Machine
-lent s = machineOf (s .args .cells .now) (s .args .copy .now) (s .args .constants .now) (s .args .session)
+abbrev lent : tie.After-reach → Machine
+lent r = let o = start r .args in machineOf (o .cells .now) (o .copy .now) (o .constants .now) (o .session)
 
-at-place : (t : tie.After-number) → let s = start (t .before .before) in reached (lent s) (s .args .address) ≡ At (t .number .given .0 .0) (t .number .given .0 .1 .0)
+abbrev found : tie.After-number → Partition
+found t = t .number .given .0 .1 .0
+
+at-place : (t : tie.After-number) → let r = t .before .before in reached (lent r) (start r .args .address) ≡ At (t .number .given .0 .0) (found t)
 at-place t = sym (t .before .before .reach .ensures) ∙ t .number .given .1
 
 returns : tie.Need-returns
-returns c =
-    let t = c .before .before .before in
-    digest-denied (lent (start (t .before .before))) _ _ _ (at-place t) (sym (c .before .may-digest .ensures) ∙ not-true _ (c .if1 .taken))
+returns c = denied (digest-decided _ _) (at-place (c .before .before .before)) (sym (c .before .may-digest .ensures) ∙ not-true _ (c .if1 .taken))
 
 mul-digest-of : tie.Need-mul-digest-of
 mul-digest-of c = search needs
@@ -70,12 +77,19 @@ answer-of-requires : tie.Need-answer-of-requires
 answer-of-requires c κs = search needs
 
 returns-2 : tie.Need-returns-2
-returns-2 c =
-    let r = c .before .before .before in
-    digest-stopped (lent (start r)) _ _ (sym (r .reach .ensures) ∙ c .before .answer .given .1)
+returns-2 c = stopped (digest-decided _ _) (sym (c .before .before .before .reach .ensures) ∙ c .before .answer .given .1)
 
 same-length : tie.Need-same-length
 same-length c = search needs
+
+-- the digest is that of the data words
+digested : (d : tie.After-digest-of) → let t = d .before .before .before .before .before .before .before .before in
+    d .digest-of .result ≡ digestNow (lent (t .before .before)) (found t)
+digested d =
+    let t = d .before .before .before .before .before .before .before .before in
+    let h = held _ _ _ _ _ _ _ (at-place t) in
+    let l = lent (t .before .before) .lent in
+    d .digest-of .ensures ∙ data-digest (l .constants) (found t) (l .cells) (h .data-first) (h .data-in-cells)
 
 returns-3 : tie.Need-returns-3
 returns-3 c =
@@ -84,10 +98,9 @@ returns-3 c =
     let d = t .before in
     let e = d .before .before .before .before .before in
     let n = e .before .before .before in
-    let m = lent (start (n .before .before)) in
-    let h = held _ _ _ _ _ _ _ (at-place n) in
-    digest-done m _ _ _ (at-place n) (sym (e .before .may-digest .ensures) ∙ not-false _ (e .if1 .left)) _ _ _ _
-    (d .digest-of .ensures ∙ data-digest (m .lent .constants) (n .number .given .0 .1 .0) (m .lent .cells) (h .data-first) (h .data-in-cells)) (t .split .ensures)
+    let v = digested d in
+    burnt (digest-decided _ _) (at-place n) (sym (e .before .may-digest .ensures) ∙ not-false _ (e .if1 .left))
+    (ap₂ (λ (ws : List ℕ) (v : ℕ). program (found n .digest / 2) ws stay (say (Done v) stay)) (sym (t .split .ensures ∙ ap (wordsOf 4) v)) (sym v))
     (q .program .ensures .1) (c .answer-of .ensures ∙ ap (λ (r : Programmed). programmedAnswer r (d .digest-of .result)) (q .program .ensures .0))
 
 pub digest-spec : {M : Type 1} → statement M

@@ -17,7 +17,10 @@ read-locked-requires c κs = search needs
 
 returns : tie.Need-returns
 unfolding mayRead inDigest sensedLocked
-returns c = rw (← c .before .before .before .before .before .rights .ensures, ← c .before .before .before .before .sensed-at .ensures, ← c .before .before .read-locked .ensures)
+returns c =
+    let l = c .before .before in
+    let s = l .before .before in
+    rw (← s .before .rights .ensures, ← s .sensed-at .ensures, ← l .read-locked .ensures)
 
 pub may-read-spec : {M : Type 1} → statement M
 may-read-spec =

@@ -23,14 +23,14 @@ enum-told c = search needs
 abbrev start : tie.After-enum-told → tie.Start
 start t = t .before .before .before .before
 
-accepted : (t : tie.After-enum-told) → admittedOf (start t .args .cells) (start t .args .copy) (start t .args .constants .now) (start t .args .session .phase) ≡ Accepted
+accepted : (t : tie.After-enum-told) → let o = start t .args in admittedOf (o .cells) (o .copy) (o .constants .now) (o .session .phase) ≡ Accepted
 accepted t = sym (t .before .before .admit .ensures) ∙ t .enum-told .given .1
 
 returns : tie.Need-returns
 returns c =
     let t = c .before in
     let o = start t .args in
-    sym (past-map (o .cells) (o .copy) (o .constants .now) (o .session .phase) (o .address) (accepted t) (rw map1-limit (c .if1 .taken)))
+    sym (past-map _ _ _ (o .session .phase) (o .address) (accepted t) (rw map1-limit (c .if1 .taken)))
 
 number-at-requires : tie.Need-number-at-requires
 number-at-requires c κs = search needs
@@ -42,7 +42,7 @@ returns-2 : tie.Need-returns-2
 returns-2 c =
     let a = c .before .before .before in
     let o = a .before .before .args in
-    sym (not-admitted (o .cells) (o .copy) (o .constants .now) (o .session .phase) (o .address) _ (sym (a .admit .ensures) ∙ c .before .answer .given .1))
+    sym (not-admitted _ _ _ (o .session .phase) (o .address) _ (sym (a .admit .ensures) ∙ c .before .answer .given .1))
 
 returns-3 : tie.Need-returns-3
 returns-3 c =
@@ -51,7 +51,7 @@ returns-3 c =
     let o = start t .args in
     let e = n .number-at .ensures in
     let found = c .partition-of .ensures ∙ sym (partition-at map1 (o .address) (sym e)) in
-    ap₂ At e found ∙ sym (in-map (o .cells) (o .copy) (o .constants .now) (o .session .phase) (o .address) (accepted t) (rw map1-limit (n .before .if1 .left)))
+    ap₂ At e found ∙ sym (in-map _ _ _ (o .session .phase) (o .address) (accepted t) (rw map1-limit (n .before .if1 .left)))
 
 pub reach-spec : {M : Type 1} → statement M
 reach-spec =

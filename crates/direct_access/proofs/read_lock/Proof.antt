@@ -9,7 +9,7 @@ use Rattle.model.specs.Lent.{Machine}
 use Rattle.chip.specs.declared.Judged.the-variants.{Accepted}
 use Rattle.chip.specs.Chip.{machineOf}
 use Rattle.chip.proofs.Acting.{admission}
-use Rattle.direct_access.proofs.Commands.{lock-stopped, lock-denied, lock-done, lockable-low}
+use Rattle.direct_access.proofs.ReadLock.{lock-stopped, lock-denied, lock-done, lockable-low}
 use borrow.Author.Needs.{needs}
 use Rattle.direct_access.proofs.read_lock.Statement.{statement}
 use Rattle.direct_access.proofs.read_lock.Tie as tie
@@ -39,7 +39,8 @@ accepted : (r : tie.After-rights) → admission (lent (start r)) ≡ Accepted
 accepted r = let t = r .before .before in sym (t .before .before .admit .ensures) ∙ t .enum-told .given .1
 
 lockable : (r : tie.After-rights) → rightsOf (partition map1 (start r .args .partition) .kind) .lockable ≡ r .rights .result .lockable
-lockable r = ap (λ (p : Partition). rightsOf (p .kind) .lockable) (sym (r .before .partition-of .ensures)) ∙ ap (λ (x : Rights). x .lockable) (sym (r .rights .ensures))
+lockable r =
+    ap (λ (p : Partition). rightsOf (p .kind) .lockable) (sym (r .before .partition-of .ensures)) ∙ ap (λ (x : Rights). x .lockable) (sym (r .rights .ensures))
 
 returns : tie.Need-returns
 returns c =

@@ -1,6 +1,7 @@
 -- No place, no right, or the granule is programmed with the words of the value.
-use mathlib.Core.Path.{_≡_, sym, ap, _∙_}
-use Prim.Native.Nat.{_≤_}
+use mathlib.Core.Path.{_≡_, sym, ap, ap₂, _∙_}
+use mathlib.Core.List.{List}
+use Prim.Native.Nat.{ℕ, _≤_}
 use native.Mathlib.Omega.{arith}
 use lib.ListN.{take}
 use lib.Seq.{length-take-le}
@@ -8,16 +9,19 @@ use borrow.Author.Tests.{not-true, not-false}
 use Rattle.words.specs.declared.Programmed.{Programmed}
 use Rattle.words.specs.Words.{wordsOf}
 use Rattle.words.proofs.Words.{words-take, length-words}
+use Rattle.partitions.specs.declared.Partition.{Partition}
 use Rattle.partitions.specs.Map.{wordCount}
 use Rattle.partitions.specs.Map1.{map1}
+use Rattle.model.specs.declared.Answer.the-variants.{Done}
 use Rattle.model.specs.Lent.{Machine}
+use Rattle.model.specs.Acts.{stay, say, program}
 use Rattle.model.specs.Commands.{scrambled}
 use Rattle.chip.specs.Chip.{primitives, machineOf}
 use Rattle.direct_access.specs.declared.Reached.the-variants.{At}
 use Rattle.direct_access.specs.Access.{programmedAnswer}
 use Rattle.direct_access.proofs.Places.{held}
-use Rattle.direct_access.proofs.Results.{reached}
-use Rattle.direct_access.proofs.Commands.{write-stopped, write-denied, write-done}
+use Rattle.direct_access.proofs.Decisions.{write-decided}
+use Rattle.direct_access.proofs.Results.{reached, stopped, denied, burnt}
 use borrow.Author.Needs.{needs}
 use Rattle.direct_access.proofs.write.Statement.{statement}
 use Rattle.direct_access.proofs.write.Tie as tie
@@ -36,18 +40,19 @@ may-write-requires c κs = search needs
 
 -- what is lent, and the place that was reached
 abbrev start : tie.After-reach → tie.Start
-start t = t .before .before .before .before
+start r = r .before .before .before .before
 
-abbrev lent : tie.Start → Machine
-lent s = machineOf (s .args .cells .now) (s .args .copy .now) (s .args .constants .now) (s .args .session)
+abbrev lent : tie.After-reach → Machine
+lent r = let o = start r .args in machineOf (o .cells .now) (o .copy .now) (o .constants .now) (o .session)
 
-at-place : (t : tie.After-number) → let s = start (t .before .before) in reached (lent s) (s .args .address) ≡ At (t .number .given .0 .0) (t .number .given .0 .1 .0)
+abbrev found : tie.After-number → Partition
+found t = t .number .given .0 .1 .0
+
+at-place : (t : tie.After-number) → let r = t .before .before in reached (lent r) (start r .args .address) ≡ At (t .number .given .0 .0) (found t)
 at-place t = sym (t .before .before .reach .ensures) ∙ t .number .given .1
 
 returns : tie.Need-returns
-returns c =
-    let t = c .before .before .before in
-    write-denied (lent (start (t .before .before))) _ _ _ (at-place t) _ (sym (c .before .may-write .ensures) ∙ not-true _ (c .if1 .taken))
+returns c = denied (write-decided _ _ _) (at-place (c .before .before .before)) (sym (c .before .may-write .ensures) ∙ not-true _ (c .if1 .taken))
 
 granule-at-requires : tie.Need-granule-at-requires
 granule-at-requires c κs = search needs
@@ -58,14 +63,13 @@ scrambled-requires c κs = search needs
 split-requires : tie.Need-split-requires
 split-requires c κs = search needs
 
--- the words lent with the granule
 few : (t : tie.After-granule-at) → t .granule-at .result .words ≤ 4
-few t =
-    let h = held _ _ _ _ _ _ _ (at-place (t .before .before .before .before)) in
-    omega (arith, h .few, t .granule-at .ensures .1)
+few t = let h = held _ _ _ _ _ _ _ (at-place (t .before .before .before .before)) in omega (arith, h .few, t .granule-at .ensures .1)
 
-lent-words : (t : tie.After-split) → let g = t .before .before in let n = g .before .before .before .before in let s = start (n .before .before) in
-    take (g .granule-at .result .words) (t .split .result) ≡ wordsOf (wordCount (n .number .given .0 .1 .0) (s .args .address)) (scrambled primitives map1 (s .args .constants .now) (n .number .given .0 .1 .0) (s .args .value))
+-- the words lent are those of the scrambled value
+lent-words : (t : tie.After-split) → let g = t .before .before in let n = g .before .before .before .before in
+    let o = start (n .before .before) .args in let p = found n in
+    take (g .granule-at .result .words) (t .split .result) ≡ wordsOf (wordCount p (o .address)) (scrambled primitives map1 (o .constants .now) p (o .value))
 lent-words t =
     let g = t .before .before in
     let h = held _ _ _ _ _ _ _ (at-place (g .before .before .before .before)) in
@@ -86,9 +90,7 @@ answer-of-requires : tie.Need-answer-of-requires
 answer-of-requires c κs = search needs
 
 returns-2 : tie.Need-returns-2
-returns-2 c =
-    let r = c .before .before .before in
-    write-stopped (lent (start r)) _ _ (sym (r .reach .ensures) ∙ c .before .answer .given .1) _
+returns-2 c = stopped (write-decided _ _ _) (sym (c .before .before .before .reach .ensures) ∙ c .before .answer .given .1)
 
 same-length : tie.Need-same-length
 same-length c = search needs
@@ -99,9 +101,9 @@ returns-3 c =
     let t = q .before .before .before in
     let g = t .before .before in
     let w = g .before .before in
-    let n = w .before .before in
-    write-done (lent (start (n .before .before))) _ _ _ (at-place n) _ (sym (w .may-write .ensures) ∙ not-false _ (g .before .if1 .left)) _ _ _ _
-    (g .granule-at .ensures .0) (lent-words t) (q .program .ensures .1) (c .answer-of .ensures ∙ ap (λ (r : Programmed). programmedAnswer r 0) (q .program .ensures .0))
+    burnt (write-decided _ _ _) (at-place (w .before .before)) (sym (w .may-write .ensures) ∙ not-false _ (g .before .if1 .left))
+    (ap₂ (λ (at : ℕ) (ws : List ℕ). program at ws stay (say (Done 0) stay)) (sym (g .granule-at .ensures .0)) (sym (lent-words t)))
+    (q .program .ensures .1) (c .answer-of .ensures ∙ ap (λ (r : Programmed). programmedAnswer r 0) (q .program .ensures .0))
 
 pub write-spec : {M : Type 1} → statement M
 write-spec =

@@ -11,18 +11,6 @@ returns : tie.Need-returns
 unfolding counterWord
 returns c = sym (if-true _ _ (eq-eqb _ 0 (c .if1 .taken)))
 
-add-word-at : tie.Need-add-word-at
-add-word-at c = search needs
-
-word-at-requires : tie.Need-word-at-requires
-word-at-requires c κs = search needs
-
-add-word-at-2 : tie.Need-add-word-at-2
-add-word-at-2 c = search needs
-
-word-at-requires-2 : tie.Need-word-at-requires-2
-word-at-requires-2 c κs = search needs
-
 returns-2 : tie.Need-returns-2
 unfolding counterWord
 returns-2 c =
@@ -34,4 +22,4 @@ returns-3 c =
     c .word-at2 .ensures ∙ sym (if-false _ _ (ne-eqb _ 0 (c .before .before .if1 .left)) ∙ if-false _ _ (le-ltb _ _ (c .before .if2 .left)))
 
 pub counter-word-spec : {M : Type 1} → statement M
-counter-word-spec = tie.close (tie.spec returns add-word-at word-at-requires add-word-at-2 word-at-requires-2 returns-2 returns-3)
+counter-word-spec = tie.close (tie.spec returns (λ c. search needs) (λ c κs. search needs) (λ c. search needs) (λ c κs. search needs) returns-2 returns-3)

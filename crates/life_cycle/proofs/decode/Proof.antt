@@ -23,17 +23,8 @@ abbrev μ-loop : tie.MeasureT-loop
 loop-holds : tie.Need-loop-holds Inv-loop μ-loop
 loop-holds c = (omega arith, refl)
 
-counter-words-requires : tie.Need-counter-words-requires Inv-loop μ-loop
-counter-words-requires c κs = search needs
-
 slice-aggregate-same-words : tie.Need-slice-aggregate-same-words Inv-loop μ-loop
 slice-aggregate-same-words c = sym (ap length (c .before .counter-words .ensures) ∙ counter-length _ _)
-
-same-words-requires : tie.Need-same-words-requires Inv-loop μ-loop
-same-words-requires c κs = search needs
-
-decode-state-requires : tie.Need-decode-state-requires Inv-loop μ-loop
-decode-state-requires c κs = search needs
 
 -- what the comparison with count n tells
 module _ (t : tie.After-same-words Inv-loop μ-loop) where
@@ -56,12 +47,6 @@ returns c =
     let states = encodedBy (stateWords (start t .args .constants .now)) (start t .args .state .now) 0 21 in
     c .decode-state .ensures ∙ ap (lifeCycleOf states) (sym (found t (c .before .if1 .taken)))
 
-add-n : tie.Need-add-n Inv-loop μ-loop
-add-n c = search needs
-
-loop-less : tie.Need-loop-less Inv-loop μ-loop
-loop-less c = search needs
-
 loop-again : tie.Need-loop-again Inv-loop μ-loop
 loop-again c =
     let t = c .before in
@@ -83,12 +68,12 @@ decode-spec =
     Inv-loop
     μ-loop
     loop-holds
-    counter-words-requires
+    (λ c κs. search needs)
     slice-aggregate-same-words
-    same-words-requires
-    decode-state-requires
+    (λ c κs. search needs)
+    (λ c κs. search needs)
     returns
-    add-n
-    loop-less
+    (λ c. search needs)
+    (λ c. search needs)
     loop-again
     returns-2)

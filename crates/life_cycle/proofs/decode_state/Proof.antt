@@ -23,14 +23,8 @@ abbrev μ-loop : tie.MeasureT-loop
 loop-holds : tie.Need-loop-holds Inv-loop μ-loop
 loop-holds c = (omega arith, refl)
 
-state-words-requires : tie.Need-state-words-requires Inv-loop μ-loop
-state-words-requires c κs = search needs
-
 slice-aggregate-same-words : tie.Need-slice-aggregate-same-words Inv-loop μ-loop
 slice-aggregate-same-words c = sym (ap length (c .before .state-words .ensures) ∙ state-length _ _)
-
-same-words-requires : tie.Need-same-words-requires Inv-loop μ-loop
-same-words-requires c κs = search needs
 
 -- what the comparison with state s tells
 module _ (t : tie.After-same-words Inv-loop μ-loop) where
@@ -58,12 +52,6 @@ returns-2 c =
     let n = start t .args .count in
     sym (ap (λ (o : Option ℕ). lifeCycleOf o (some n)) (found t (c .before .if1 .taken)) ∙ both-found (loop t .loop .s) n (c .if2 .left))
 
-add-s : tie.Need-add-s Inv-loop μ-loop
-add-s c = search needs
-
-loop-less : tie.Need-loop-less Inv-loop μ-loop
-loop-less c = search needs
-
 loop-again : tie.Need-loop-again Inv-loop μ-loop
 loop-again c =
     let t = c .before in
@@ -83,12 +71,12 @@ decode-state-spec =
     Inv-loop
     μ-loop
     loop-holds
-    state-words-requires
+    (λ c κs. search needs)
     slice-aggregate-same-words
-    same-words-requires
+    (λ c κs. search needs)
     returns
     returns-2
-    add-s
-    loop-less
+    (λ c. search needs)
+    (λ c. search needs)
     loop-again
     returns-3)

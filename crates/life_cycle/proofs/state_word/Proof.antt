@@ -11,21 +11,6 @@ returns : tie.Need-returns
 unfolding stateWord
 returns c = sym (if-true _ _ (eq-eqb _ 0 (c .if1 .taken)))
 
-has-b-requires : tie.Need-has-b-requires
-has-b-requires c κs = search needs
-
-add-word-at : tie.Need-add-word-at
-add-word-at c = search needs
-
-word-at-requires : tie.Need-word-at-requires
-word-at-requires c κs = search needs
-
-add-word-at-2 : tie.Need-add-word-at-2
-add-word-at-2 c = search needs
-
-word-at-requires-2 : tie.Need-word-at-requires-2
-word-at-requires-2 c κs = search needs
-
 returns-2 : tie.Need-returns-2
 unfolding stateWord
 returns-2 c =
@@ -43,10 +28,10 @@ state-word-spec =
     tie.close
     (tie.spec
     returns
-    has-b-requires
-    add-word-at
-    word-at-requires
-    add-word-at-2
-    word-at-requires-2
+    (λ c κs. search needs)
+    (λ c. search needs)
+    (λ c κs. search needs)
+    (λ c. search needs)
+    (λ c κs. search needs)
     returns-2
     returns-3)

@@ -9,12 +9,9 @@ returns : tie.Need-returns
 unfolding testIndex
 returns c = omega arith
 
-sub-result : tie.Need-sub-result
-sub-result c = search needs
-
 returns-2 : tie.Need-returns-2
 unfolding testIndex
 returns-2 c = search needs
 
 pub test-index-spec : {M : Type 1} → statement M
-test-index-spec = tie.close (tie.spec returns sub-result returns-2)
+test-index-spec = tie.close (tie.spec returns (λ c. search needs) returns-2)

@@ -9,30 +9,6 @@ use Rattle.life_cycle.specs.Transitions.{isTest, isUnlocked, isLocked, t
 use Rattle.life_cycle.proofs.transition.Statement.{statement}
 use Rattle.life_cycle.proofs.transition.Tie as tie
 
-test-index-requires : tie.Need-test-index-requires
-test-index-requires c κs = search needs
-
-test-index-requires-2 : tie.Need-test-index-requires-2
-test-index-requires-2 c κs = search needs
-
-is-unlocked-requires : tie.Need-is-unlocked-requires
-is-unlocked-requires c κs = search needs
-
-is-locked-requires : tie.Need-is-locked-requires
-is-locked-requires c κs = search needs
-
-is-locked-requires-2 : tie.Need-is-locked-requires-2
-is-locked-requires-2 c κs = search needs
-
-is-unlocked-requires-2 : tie.Need-is-unlocked-requires-2
-is-unlocked-requires-2 c κs = search needs
-
-is-test-requires : tie.Need-is-test-requires
-is-test-requires c κs = search needs
-
-is-unlocked-requires-3 : tie.Need-is-unlocked-requires-3
-is-unlocked-requires-3 c κs = search needs
-
 -- ---- the rows that call: where the code's test has a value, the definition's has it
 
 both : {a b c d : Bool} → a ≡ c → b ≡ d → (a && b) ≡ (c && d)
@@ -62,13 +38,15 @@ third e = second (e .before .before .before)
 abbrev fourth : tie.Else4 → tie.After-test-index2
 fourth e = third (e .before .before)
 
-lock : (b : tie.After-is-locked) {v : Bool} → let i = first (b .before .before) in (b .before .is-unlocked .result && b .is-locked .result && leb (n i) (m i)) ≡ v
+lock : (b : tie.After-is-locked) {v : Bool}
+    → let i = first (b .before .before) in (b .before .is-unlocked .result && b .is-locked .result && leb (n i) (m i)) ≡ v
     → (isUnlocked (from i) && isLocked (to i) && leb (testIndex (from i)) (testIndex (to i))) ≡ v
 lock b e =
     let i = first (b .before .before) in
     sym (both (both (b .before .is-unlocked .ensures) (b .is-locked .ensures)) (ap₂ leb (i .before .test-index .ensures) (i .test-index2 .ensures))) ∙ e
 
-unlock : (b : tie.After-is-unlocked2) {v : Bool} → let i = second (b .before .before) in (b .before .is-locked2 .result && b .is-unlocked2 .result && ltb (n i) (m i)) ≡ v
+unlock : (b : tie.After-is-unlocked2) {v : Bool}
+    → let i = second (b .before .before) in (b .before .is-locked2 .result && b .is-unlocked2 .result && ltb (n i) (m i)) ≡ v
     → (isLocked (from i) && isUnlocked (to i) && ltb (testIndex (from i)) (testIndex (to i))) ≡ v
 unlock b e =
     let i = second (b .before .before) in
@@ -188,18 +166,18 @@ pub transition-spec : {M : Type 1} → statement M
 transition-spec =
     tie.close
     (tie.spec
-    test-index-requires
-    test-index-requires-2
+    (λ c κs. search needs)
+    (λ c κs. search needs)
     returns
-    is-unlocked-requires
-    is-locked-requires
+    (λ c κs. search needs)
+    (λ c κs. search needs)
     returns-2
-    is-locked-requires-2
-    is-unlocked-requires-2
+    (λ c κs. search needs)
+    (λ c κs. search needs)
     returns-3
-    is-test-requires
+    (λ c κs. search needs)
     returns-4
-    is-unlocked-requires-3
+    (λ c κs. search needs)
     returns-5
     returns-6
     returns-7

@@ -6,15 +6,9 @@ use Rattle.life_cycle.specs.Constants.{validConstants}
 use Rattle.life_cycle.proofs.valid_constants.Statement.{statement}
 use Rattle.life_cycle.proofs.valid_constants.Tie as tie
 
-pairs-valid-requires : tie.Need-pairs-valid-requires
-pairs-valid-requires c κs = search needs
-
-pairs-valid-requires-2 : tie.Need-pairs-valid-requires-2
-pairs-valid-requires-2 c κs = search needs
-
 returns : tie.Need-returns
 unfolding validConstants
 returns c = ap₂ (λ (x y : Bool). x && y) (c .before .pairs-valid .ensures) (c .pairs-valid2 .ensures)
 
 pub valid-constants-spec : {M : Type 1} → statement M
-valid-constants-spec = tie.close (tie.spec pairs-valid-requires pairs-valid-requires-2 returns)
+valid-constants-spec = tie.close (tie.spec (λ c κs. search needs) (λ c κs. search needs) returns)

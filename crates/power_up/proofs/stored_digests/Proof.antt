@@ -1,11 +1,9 @@
 -- The invariant: the entries below the number are the stored digests of those partitions.
-use mathlib.Core.Path.{_≡_, refl, ap, _∙_}
-use Prim.Native.Nat.{ℕ, _≤_, _<_, _-_}
+use mathlib.Core.Path.{refl, ap, _∙_}
+use Prim.Native.Nat.{_-_}
 use native.Mathlib.Omega.{arith}
-use native.Mathlib.Numerals.{add-one}
 use borrow.Author.Needs.{needs}
-use lib.ListN.{length, getD, length-set}
-use Rattle.basics.proofs.Range.{is-listed, set-more}
+use Rattle.basics.proofs.Range.{Follows, follows-none, follows-more, follows-all}
 use Rattle.partitions.specs.declared.Partition.{Partition}
 use Rattle.partitions.specs.Map.{partition}
 use Rattle.partitions.specs.Map1.{map1}
@@ -15,14 +13,13 @@ use Rattle.power_up.proofs.stored_digests.Statement.{statement}
 use Rattle.power_up.proofs.stored_digests.Tie as tie
 
 abbrev Inv-loop : tie.InvT-loop
-Inv-loop cells digests₀ number₀ digests number =
-    (number ≤ 6) × (length digests ≡ 6) × ((n : ℕ) → n < number → getD digests n 0 ≡ storedDigest (partition map1 n) cells)
+Inv-loop cells digests₀ number₀ digests number = Follows (λ n. storedDigest (partition map1 n) cells) 6 digests number
 
 abbrev μ-loop : tie.MeasureT-loop
 μ-loop cells digests₀ number₀ digests number = 6 - number
 
 loop-holds : tie.Need-loop-holds Inv-loop μ-loop
-loop-holds c = (omega arith, refl, λ n l. absurd (omega arith))
+loop-holds c = follows-none refl
 
 partition-of-requires : tie.Need-partition-of-requires Inv-loop μ-loop
 partition-of-requires c κs = search needs
@@ -47,15 +44,12 @@ loop-again c =
     let l = c .before .before .before in
     let cells = l .before .before .args .cells .now in
     let e = c .stored-digest .ensures ∙ ap (λ (p : Partition). storedDigest p cells) (c .before .partition-of .ensures) in
-    let h : l .loop .number < length (l .loop .digests) = omega arith in
-    let more = set-more (λ n. storedDigest (partition map1 n) cells) (l .loop .digests) (l .loop .number) _ h e (l .loop .inv .2) in
-    (omega arith, simp length-set (l .loop .inv .1), rw (add-one (l .loop .number)) more)
+    follows-more (l .loop .inv) (omega arith) e
 
 returns : tie.Need-returns Inv-loop μ-loop
 returns c =
-    let l = c .before .loop in
     let cells = c .before .before .before .args .cells .now in
-    is-listed _ 6 (l .digests) (l .inv .1) (λ n h. l .inv .2 n (omega arith)) ∙ six-digests (λ p. storedDigest p cells)
+    follows-all (c .before .loop .inv) (omega arith) ∙ six-digests (λ p. storedDigest p cells)
 
 pub stored-digests-spec : {M : Type 1} → statement M
 stored-digests-spec =

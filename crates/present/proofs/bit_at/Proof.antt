@@ -5,11 +5,8 @@ use borrow.Author.Needs.{needs}
 use Rattle.present.proofs.bit_at.Statement.{statement}
 use Rattle.present.proofs.bit_at.Tie as tie
 
-shr-result : tie.Need-shr-result
-shr-result c = search needs
-
 returns : tie.Need-returns
 returns c = and-mask (c .args .x / 2 ^ c .args .i) 1
 
 pub bit-at-spec : {M : Type 1} → statement M
-bit-at-spec = tie.close (tie.spec shr-result returns)
+bit-at-spec = tie.close (tie.spec (λ c. search needs) returns)

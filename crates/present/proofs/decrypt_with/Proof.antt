@@ -20,32 +20,11 @@ Inv-loop keys block state₀ i₀ state i =
 abbrev μ-loop : tie.MeasureT-loop
 μ-loop keys block state₀ i₀ state i = i
 
-element-copy-out-state : tie.Need-element-copy-out-state Inv-loop μ-loop
-element-copy-out-state c = omega arith
-
 loop-holds : tie.Need-loop-holds Inv-loop μ-loop
 unfolding decryptBlock
 loop-holds c =
     let a = c .before .args in
     (lit≤ tt, λ key e. ap (λ (k : ℕ). blockBefore key (bitXor (a .block) k) 31) (key-at (now (a .keys)) key 31 e (lit< tt)))
-
-sub-i : tie.Need-sub-i Inv-loop μ-loop
-sub-i c = omega arith
-
-permuted-back-requires : tie.Need-permuted-back-requires Inv-loop μ-loop
-permuted-back-requires c κs = tt
-
-substituted-requires : tie.Need-substituted-requires Inv-loop μ-loop
-substituted-requires c κs = tt
-
-mul-state : tie.Need-mul-state Inv-loop μ-loop
-mul-state c = omega arith
-
-element-copy-out-state-2 : tie.Need-element-copy-out-state-2 Inv-loop μ-loop
-element-copy-out-state-2 c = omega arith
-
-loop-less : tie.Need-loop-less Inv-loop μ-loop
-loop-less c = omega arith
 
 loop-again : tie.Need-loop-again Inv-loop μ-loop
 unfolding if_then_else_ allBelow sum sBox sBoxInverse blockBefore
@@ -75,13 +54,13 @@ decrypt-with-spec =
     (tie.spec
     Inv-loop
     μ-loop
-    element-copy-out-state
+    (λ c. omega arith)
     loop-holds
-    sub-i
-    permuted-back-requires
-    substituted-requires
-    mul-state
-    element-copy-out-state-2
-    loop-less
+    (λ c. omega arith)
+    (λ c κs. tt)
+    (λ c κs. tt)
+    (λ c. omega arith)
+    (λ c. omega arith)
+    (λ c. omega arith)
     loop-again
     returns)

@@ -3,14 +3,8 @@ use borrow.Author.Needs.{needs}
 use Rattle.present.proofs.encrypt.Statement.{statement}
 use Rattle.present.proofs.encrypt.Tie as tie
 
-round-keys-requires : tie.Need-round-keys-requires
-round-keys-requires c κs = search needs
-
-encrypt-with-requires : tie.Need-encrypt-with-requires
-encrypt-with-requires c κs = search needs
-
 returns : tie.Need-returns
 returns c = c .encrypt-with .ensures _ (c .before .before .round-keys .ensures)
 
 pub encrypt-spec : {M : Type 1} → statement M
-encrypt-spec = tie.close (tie.spec round-keys-requires encrypt-with-requires returns)
+encrypt-spec = tie.close (tie.spec (λ c κs. search needs) (λ c κs. search needs) returns)

@@ -24,24 +24,6 @@ loop-holds : tie.Need-loop-holds Inv-loop μ-loop
 unfolding stateAfter
 loop-holds c = (lit≤ tt, λ key e. refl)
 
-mul-substituted : tie.Need-mul-substituted Inv-loop μ-loop
-mul-substituted c = omega arith
-
-element-copy-out-substituted : tie.Need-element-copy-out-substituted Inv-loop μ-loop
-element-copy-out-substituted c = omega arith
-
-substituted-requires : tie.Need-substituted-requires Inv-loop μ-loop
-substituted-requires c κs = tt
-
-permuted-requires : tie.Need-permuted-requires Inv-loop μ-loop
-permuted-requires c κs = tt
-
-add-i : tie.Need-add-i Inv-loop μ-loop
-add-i c = omega arith
-
-loop-less : tie.Need-loop-less Inv-loop μ-loop
-loop-less c = omega arith
-
 loop-again : tie.Need-loop-again Inv-loop μ-loop
 unfolding allBelow sBox stateAfter
 loop-again c =
@@ -54,9 +36,6 @@ loop-again c =
           ∙ ap₂ (λ (x k : ℕ). permute (substitute sBox (bitXor x k))) (s .loop .inv .1 key e) (key-at (now (a .keys)) key i e (omega arith))
           ∙ ap (stateAfter key (a .block)) (sym (add-one i)),
     )
-
-element-copy-out-result : tie.Need-element-copy-out-result Inv-loop μ-loop
-element-copy-out-result c = omega arith
 
 returns : tie.Need-returns Inv-loop μ-loop
 unfolding encryptBlock
@@ -73,12 +52,12 @@ encrypt-with-spec =
     Inv-loop
     μ-loop
     loop-holds
-    mul-substituted
-    element-copy-out-substituted
-    substituted-requires
-    permuted-requires
-    add-i
-    loop-less
+    (λ c. omega arith)
+    (λ c. omega arith)
+    (λ c κs. tt)
+    (λ c κs. tt)
+    (λ c. omega arith)
+    (λ c. omega arith)
     loop-again
-    element-copy-out-result
+    (λ c. omega arith)
     returns)

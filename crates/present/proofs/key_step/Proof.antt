@@ -7,15 +7,6 @@ use Rattle.present.proofs.KeyRegister.{topped, keyStep-halves}
 use Rattle.present.proofs.key_step.Statement.{statement}
 use Rattle.present.proofs.key_step.Tie as tie
 
-rotated-requires : tie.Need-rotated-requires
-rotated-requires c κs = search needs
-
-top-substituted-requires : tie.Need-top-substituted-requires
-top-substituted-requires c κs = search needs
-
-rotated-requires-2 : tie.Need-rotated-requires-2
-rotated-requires-2 c κs = search needs
-
 returns : tie.Need-returns
 returns c =
     let s = c .before .before .before in
@@ -26,4 +17,4 @@ returns c =
 
 pub key-step-spec : {M : Type 1} → statement M
 key-step-spec =
-    tie.close (tie.spec rotated-requires top-substituted-requires rotated-requires-2 returns)
+    tie.close (tie.spec (λ c κs. search needs) (λ c κs. search needs) (λ c κs. search needs) returns)

@@ -1,13 +1,11 @@
 -- The loop's invariant: the bits below i are at their places.
-use mathlib.Core.Path.{_≡_, refl, ap, _∙_}
-use Prim.Native.Nat.{ℕ, _-_, _*_, _^_, _≤_}
+use Prim.Native.Nat.{ℕ, _-_, _*_, _^_}
 use native.Mathlib.Omega.{arith}
-use lib.Dec.{lit≤, lit<}
-use Rattle.basics.specs.Range.{sum}
+use lib.Dec.{lit<}
 use Rattle.basics.specs.Digits.{bit}
 use Rattle.basics.proofs.Digits.{digit-lt}
 use Rattle.present.specs.Present.{place, permute}
-use Rattle.present.proofs.Turns.{added, part-lt, shifted}
+use Rattle.present.proofs.Turns.{Sums, sums-none, sums-more, sums-fit, sums-all, shifted}
 use Rattle.present.proofs.Permutation.{permute-lt}
 use Rattle.present.proofs.permuted.Statement.{statement}
 use Rattle.present.proofs.permuted.Tie as tie
@@ -16,23 +14,13 @@ abbrev moved : ℕ → ℕ → ℕ
 moved x i = bit x i * 2 ^ place i
 
 abbrev Inv-loop : tie.InvT-loop
-Inv-loop x out₀ i₀ out i = (i ≤ 64) × (out ≡ sum i (moved x))
+Inv-loop x out₀ i₀ out i = Sums (moved x) 64 out i
 
 abbrev μ-loop : tie.MeasureT-loop
 μ-loop x out₀ i₀ out i = 64 - i
 
 loop-holds : tie.Need-loop-holds Inv-loop μ-loop
-unfolding sum
-loop-holds c = (lit≤ tt, refl)
-
-bit-at-requires : tie.Need-bit-at-requires Inv-loop μ-loop
-bit-at-requires c κs = omega arith
-
-place-of-requires : tie.Need-place-of-requires Inv-loop μ-loop
-place-of-requires c κs = omega arith
-
-shl-out : tie.Need-shl-out Inv-loop μ-loop
-shl-out c = omega arith
+loop-holds c = sums-none
 
 loop-again : tie.Need-loop-again Inv-loop μ-loop
 loop-again c =
@@ -40,25 +28,15 @@ loop-again c =
     let x : ℕ = s .before .args .x in
     let i : ℕ = s .loop .i in
     let term = shifted 1 _ (bit x i) _ (place i) (c .before .bit-at .ensures) (c .place-of .ensures .0) (digit-lt 2 (lit< tt) x i) (omega arith) in
-    (omega arith, added (moved x) i (s .loop .out) _ (s .loop .inv .1) term)
+    sums-more (s .loop .inv) (omega arith) term
 
 add-out : tie.Need-add-out Inv-loop μ-loop
 unfolding permute
-add-out c =
-    let x : ℕ = c .before .before .before .before .args .x in
-    record { fits = part-lt (moved x) 64 _ _ (loop-again c .1) (loop-again c .0) (permute-lt x) }
-
-add-i : tie.Need-add-i Inv-loop μ-loop
-add-i c = omega arith
-
-loop-less : tie.Need-loop-less Inv-loop μ-loop
-loop-less c = omega arith
+add-out c = record { fits = sums-fit (loop-again c) (permute-lt (c .before .before .before .before .args .x)) }
 
 returns : tie.Need-returns Inv-loop μ-loop
 unfolding permute
-returns c =
-    let e : c .before .loop .i ≡ 64 = omega arith in
-    c .before .loop .inv .1 ∙ ap (λ (n : ℕ). sum n (moved (c .before .before .args .x))) e
+returns c = sums-all (c .before .loop .inv) (omega arith)
 
 pub permuted-spec : {M : Type 1} → statement M
 permuted-spec =
@@ -67,11 +45,11 @@ permuted-spec =
     Inv-loop
     μ-loop
     loop-holds
-    bit-at-requires
-    place-of-requires
-    shl-out
+    (λ c κs. omega arith)
+    (λ c κs. omega arith)
+    (λ c. omega arith)
     add-out
-    add-i
-    loop-less
+    (λ c. omega arith)
+    (λ c. omega arith)
     loop-again
     returns)

@@ -1,38 +1,27 @@
 -- The loop's invariant: the bits below i have come back from their places.
-use mathlib.Core.Path.{_≡_, refl, ap, _∙_}
-use Prim.Native.Nat.{ℕ, _-_, _≤_}
+use mathlib.Core.Path.{refl, ap, _∙_}
+use Prim.Native.Nat.{ℕ, _-_, _*_, _^_}
 use native.Mathlib.Omega.{arith}
-use lib.Dec.{lit≤, lit<}
-use Rattle.basics.specs.Range.{sum}
-use Rattle.basics.specs.Digits.{bit, number}
+use lib.Dec.{lit<}
+use Rattle.basics.specs.Digits.{bit}
 use Rattle.basics.proofs.Digits.{digit-lt}
 use Rattle.present.specs.Present.{place, permuteBack}
-use Rattle.present.proofs.Turns.{added, part-lt, shifted}
+use Rattle.present.proofs.Turns.{Sums, sums-none, sums-more, sums-fit, sums-all, shifted}
 use Rattle.present.proofs.Permutation.{permuteBack-lt}
 use Rattle.present.proofs.permuted_back.Statement.{statement}
 use Rattle.present.proofs.permuted_back.Tie as tie
 
 abbrev fetched : ℕ → ℕ → ℕ
-fetched x i = bit x (place i)
+fetched x i = bit x (place i) * 2 ^ i
 
 abbrev Inv-loop : tie.InvT-loop
-Inv-loop x out₀ i₀ out i = (i ≤ 64) × (out ≡ number 2 i (fetched x))
+Inv-loop x out₀ i₀ out i = Sums (fetched x) 64 out i
 
 abbrev μ-loop : tie.MeasureT-loop
 μ-loop x out₀ i₀ out i = 64 - i
 
 loop-holds : tie.Need-loop-holds Inv-loop μ-loop
-unfolding sum
-loop-holds c = (lit≤ tt, refl)
-
-place-of-requires : tie.Need-place-of-requires Inv-loop μ-loop
-place-of-requires c κs = omega arith
-
-bit-at-requires : tie.Need-bit-at-requires Inv-loop μ-loop
-bit-at-requires c κs = omega arith
-
-shl-out : tie.Need-shl-out Inv-loop μ-loop
-shl-out c = omega arith
+loop-holds c = sums-none
 
 loop-again : tie.Need-loop-again Inv-loop μ-loop
 loop-again c =
@@ -40,24 +29,16 @@ loop-again c =
     let x : ℕ = s .before .args .x in
     let i : ℕ = s .loop .i in
     let at-place = c .bit-at .ensures ∙ ap (bit x) (c .before .place-of .ensures .0) in
-    let term = shifted 1 _ (fetched x i) i i at-place refl (digit-lt 2 (lit< tt) x (place i)) (omega arith) in
-    (omega arith, added _ i (s .loop .out) _ (s .loop .inv .1) term)
+    let term = shifted 1 _ (bit x (place i)) i i at-place refl (digit-lt 2 (lit< tt) x (place i)) (omega arith) in
+    sums-more (s .loop .inv) (omega arith) term
 
 add-out : tie.Need-add-out Inv-loop μ-loop
 unfolding permuteBack
-add-out c = record { fits = part-lt _ 64 _ _ (loop-again c .1) (loop-again c .0) (permuteBack-lt (c .before .before .before .before .args .x)) }
-
-add-i : tie.Need-add-i Inv-loop μ-loop
-add-i c = omega arith
-
-loop-less : tie.Need-loop-less Inv-loop μ-loop
-loop-less c = omega arith
+add-out c = record { fits = sums-fit (loop-again c) (permuteBack-lt (c .before .before .before .before .args .x)) }
 
 returns : tie.Need-returns Inv-loop μ-loop
 unfolding permuteBack
-returns c =
-    let e : c .before .loop .i ≡ 64 = omega arith in
-    c .before .loop .inv .1 ∙ ap (λ (n : ℕ). number 2 n (fetched (c .before .before .args .x))) e
+returns c = sums-all (c .before .loop .inv) (omega arith)
 
 pub permuted-back-spec : {M : Type 1} → statement M
 permuted-back-spec =
@@ -66,11 +47,11 @@ permuted-back-spec =
     Inv-loop
     μ-loop
     loop-holds
-    place-of-requires
-    bit-at-requires
-    shl-out
+    (λ c κs. omega arith)
+    (λ c κs. omega arith)
+    (λ c. omega arith)
     add-out
-    add-i
-    loop-less
+    (λ c. omega arith)
+    (λ c. omega arith)
     loop-again
     returns)

@@ -7,9 +7,6 @@ use Rattle.present.specs.Present.{place}
 use Rattle.present.proofs.place_of.Statement.{statement}
 use Rattle.present.proofs.place_of.Tie as tie
 
-mul-result : tie.Need-mul-result
-mul-result c = search needs
-
 returns : tie.Need-returns
 unfolding place
 returns c = (sym (if-true _ _ (eq-eqb _ _ (c .if1 .taken))), search needs)
@@ -19,4 +16,4 @@ unfolding place
 returns-2 c = (sym (if-false _ _ (ne-eqb _ _ (c .if1 .left))), search needs)
 
 pub place-of-spec : {M : Type 1} → statement M
-place-of-spec = tie.close (tie.spec mul-result returns returns-2)
+place-of-spec = tie.close (tie.spec (λ c. search needs) returns returns-2)

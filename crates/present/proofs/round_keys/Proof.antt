@@ -1,11 +1,10 @@
 -- The loop's invariant: the register has gone i steps, and the first i entries are its round keys.
-use mathlib.Core.Path.{_≡_, refl, sym, ap, _∙_}
-use Prim.Native.Nat.{ℕ, suc, _+_, _-_, _*_, _^_, _≤_, _<_}
+use mathlib.Core.Path.{_≡_, refl, sym, ap, subst, _∙_}
+use Prim.Native.Nat.{ℕ, _+_, _-_, _*_, _^_, _≤_, _<_}
 use native.Mathlib.Numerals.{add-one}
 use native.Mathlib.Omega.{arith}
-use lib.Dec.{lit≤}
-use lib.ListN.{length, getD, length-set}
-use Rattle.basics.proofs.Range.{is-listed, set-more}
+use lib.Dec.{lit≤, lit<}
+use Rattle.basics.proofs.Range.{Follows, follows-none, follows-more, follows-all}
 use Rattle.present.specs.Present.{roundKey, keyStep, keyAfter}
 use Rattle.present.proofs.KeyRegister.{roundKey-halves}
 use Rattle.present.proofs.round_keys.Statement.{statement}
@@ -16,30 +15,14 @@ rule high low i = roundKey (keyAfter (high * 2 ^ 64 + low) i)
 
 abbrev Inv-loop : tie.InvT-loop
 Inv-loop high low keys₀ key₀ i₀ keys key i =
-    (i ≤ 31) × (key .high * 2 ^ 64 + key .low ≡ keyAfter (high * 2 ^ 64 + low) i) × (key .low < 2 ^ 64) × (length keys ≡ 32)
-    × ((j : ℕ) → j < i → getD keys j 0 ≡ rule high low j)
+    (i ≤ 31) × (key .high * 2 ^ 64 + key .low ≡ keyAfter (high * 2 ^ 64 + low) i) × (key .low < 2 ^ 64) × Follows (rule high low) 32 keys i
 
 abbrev μ-loop : tie.MeasureT-loop
 μ-loop high low keys₀ key₀ i₀ keys key i = 31 - i
 
 loop-holds : tie.Need-loop-holds Inv-loop μ-loop
 unfolding keyAfter
-loop-holds c = (lit≤ tt, refl, c .fits .low .fits, refl, λ j h. absurd (omega arith))
-
-mul-keys : tie.Need-mul-keys Inv-loop μ-loop
-mul-keys c = omega arith
-
-array-write-keys : tie.Need-array-write-keys Inv-loop μ-loop
-array-write-keys c = omega arith
-
-add-i : tie.Need-add-i Inv-loop μ-loop
-add-i c = omega arith
-
-key-step-requires : tie.Need-key-step-requires Inv-loop μ-loop
-key-step-requires c κs = tt
-
-loop-less : tie.Need-loop-less Inv-loop μ-loop
-loop-less c = omega arith
+loop-holds c = (lit≤ tt, refl, c .fits .low .fits, follows-none refl)
 
 -- the high half is the round key
 high-is : (high low i a b : ℕ) → a * 2 ^ 64 + b ≡ keyAfter (high * 2 ^ 64 + low) i → b < 2 ^ 64 → a ≡ rule high low i
@@ -51,29 +34,21 @@ loop-again c =
     let s = c .before .before in
     let g = s .before .args in
     let v = s .loop in
-    let e : v .i + 1 ≡ suc (v .i) = add-one (v .i) in
-    let h : v .i < length (v .keys) = omega arith in
     let low-fits : c .key-step .result .low < 2 ^ 64 = c .key-step .ok .1 .1 .1 .0 .1 in (
       omega arith,
-      c .key-step .ensures ∙ ap (keyStep (v .i + 1)) (v .inv .1) ∙ rw e,
+      c .key-step .ensures ∙ ap (keyStep (v .i + 1)) (v .inv .1) ∙ rw (add-one (v .i)),
       low-fits,
-      simp length-set (v .inv .3),
-      λ j k. set-more (rule (g .high) (g .low)) (v .keys) (v .i) (v .key .high) h
-          (high-is (g .high) (g .low) (v .i) (v .key .high) (v .key .low) (v .inv .1) (v .inv .2)) (v .inv .4) j (rw (← e) k),
+      follows-more (v .inv .3) (omega arith) (high-is (g .high) (g .low) (v .i) (v .key .high) (v .key .low) (v .inv .1) (v .inv .2)),
     )
-
-array-write-keys-2 : tie.Need-array-write-keys-2 Inv-loop μ-loop
-array-write-keys-2 c = omega arith
 
 returns : tie.Need-returns Inv-loop μ-loop
 returns c =
     let g = c .before .before .args in
     let v = c .before .loop in
     let e : v .i ≡ 31 = omega arith in
-    is-listed (rule (g .high) (g .low)) 32 _ (simp length-set (v .inv .3))
-    (set-more (rule (g .high) (g .low)) (v .keys) 31 (v .key .high) (omega arith)
-    (high-is (g .high) (g .low) 31 (v .key .high) (v .key .low) (v .inv .1 ∙ ap (keyAfter (g .high * 2 ^ 64 + g .low)) e) (v .inv .2))
-    (λ j k. v .inv .4 j (rw e k)))
+    let so-far = subst (λ (i : ℕ). Follows (rule (g .high) (g .low)) 32 (v .keys) i) e (v .inv .3) in
+    let last = v .inv .1 ∙ ap (keyAfter (g .high * 2 ^ 64 + g .low)) e in
+    follows-all (follows-more so-far (lit< tt) (high-is (g .high) (g .low) 31 (v .key .high) (v .key .low) last (v .inv .2))) (lit≤ tt)
 
 pub round-keys-spec : {M : Type 1} → statement M
 round-keys-spec =
@@ -82,11 +57,11 @@ round-keys-spec =
     Inv-loop
     μ-loop
     loop-holds
-    mul-keys
-    array-write-keys
-    add-i
-    key-step-requires
-    loop-less
+    (λ c. omega arith)
+    (λ c. omega arith)
+    (λ c. omega arith)
+    (λ c κs. tt)
+    (λ c. omega arith)
     loop-again
-    array-write-keys-2
+    (λ c. omega arith)
     returns)

@@ -7,12 +7,9 @@ use Rattle.present.proofs.Boxes.{held}
 use Rattle.present.proofs.s_box.Statement.{statement}
 use Rattle.present.proofs.s_box.Tie as tie
 
-group-requires : tie.Need-group-requires
-group-requires c κs = search needs
-
 returns : tie.Need-returns
 unfolding sBox allBelow
 returns c = (c .group .ensures ∙ held _ sBox tt (c .before .args .v) (c .before .pre), search needs)
 
 pub s-box-spec : {M : Type 1} → statement M
-s-box-spec = tie.close (tie.spec group-requires returns)
+s-box-spec = tie.close (tie.spec (λ c κs. search needs) returns)

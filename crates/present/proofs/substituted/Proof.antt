@@ -1,41 +1,27 @@
 -- The loop's invariant: the groups below i have gone through the box.
-use mathlib.Core.Path.{_≡_, refl, sym, ap, _∙_}
-use Prim.Native.Nat.{ℕ, _-_, _*_, _≤_}
+use mathlib.Core.Path.{refl, sym, ap, _∙_}
+use Prim.Native.Nat.{ℕ, _-_, _*_, _^_}
 use native.Mathlib.Omega.{arith}
-use lib.Dec.{lit≤, lit<}
-use Rattle.basics.specs.Range.{sum}
-use Rattle.basics.specs.Digits.{digit, number}
+use lib.Dec.{lit<}
+use Rattle.basics.specs.Digits.{digit}
 use Rattle.basics.proofs.Digits.{digit-lt}
 use Rattle.present.specs.Present.{substitute}
-use Rattle.present.proofs.Turns.{added, part-lt, shifted, sixteen-power}
+use Rattle.present.proofs.Turns.{Sums, sums-none, sums-more, sums-fit, sums-all, shifted, sixteen-power}
 use Rattle.present.proofs.Boxes.{substitute-lt}
 use Rattle.present.proofs.substituted.Statement.{statement}
 use Rattle.present.proofs.substituted.Tie as tie
 
 abbrev boxed : ℕ → ℕ → ℕ → ℕ
-boxed word x i = digit 16 word (digit 16 x i)
+boxed word x i = digit 16 word (digit 16 x i) * 16 ^ i
 
 abbrev Inv-loop : tie.InvT-loop
-Inv-loop word x out₀ i₀ out i = (i ≤ 16) × (out ≡ number 16 i (boxed word x))
+Inv-loop word x out₀ i₀ out i = Sums (boxed word x) 16 out i
 
 abbrev μ-loop : tie.MeasureT-loop
 μ-loop word x out₀ i₀ out i = 16 - i
 
 loop-holds : tie.Need-loop-holds Inv-loop μ-loop
-unfolding sum
-loop-holds c = (lit≤ tt, refl)
-
-group-requires : tie.Need-group-requires Inv-loop μ-loop
-group-requires c κs = omega arith
-
-group-requires-2 : tie.Need-group-requires-2 Inv-loop μ-loop
-group-requires-2 c κs = omega arith
-
-mul-out : tie.Need-mul-out Inv-loop μ-loop
-mul-out c = omega arith
-
-shl-out : tie.Need-shl-out Inv-loop μ-loop
-shl-out c = omega arith
+loop-holds c = sums-none
 
 loop-again : tie.Need-loop-again Inv-loop μ-loop
 loop-again c =
@@ -44,28 +30,19 @@ loop-again c =
     let x : ℕ = s .before .args .x in
     let i : ℕ = s .loop .i in
     let through = c .group2 .ensures ∙ ap (digit 16 word) (c .before .group .ensures) in
-    let term = shifted 4 _ (boxed word x i) _ (4 * i) through refl (digit-lt 16 (lit< tt) word (digit 16 x i)) (omega arith) in
-    (omega arith, added _ i (s .loop .out) _ (s .loop .inv .1) (term ∙ ap (λ (p : ℕ). boxed word x i * p) (sym (sixteen-power i))))
+    let term = shifted 4 _ (digit 16 word (digit 16 x i)) _ (4 * i) through refl (digit-lt 16 (lit< tt) word (digit 16 x i)) (omega arith) in
+    sums-more (s .loop .inv) (omega arith) (term ∙ ap (λ (p : ℕ). digit 16 word (digit 16 x i) * p) (sym (sixteen-power i)))
 
 add-out : tie.Need-add-out Inv-loop μ-loop
 unfolding substitute
 add-out c =
     let a = c .before .before .before .before .args in
     let whole = substitute-lt (digit 16 (a .word)) (λ v h. digit-lt 16 (lit< tt) (a .word) v) (a .x) in
-    record { fits = part-lt _ 16 _ _ (loop-again c .1) (loop-again c .0) whole }
-
-add-i : tie.Need-add-i Inv-loop μ-loop
-add-i c = omega arith
-
-loop-less : tie.Need-loop-less Inv-loop μ-loop
-loop-less c = omega arith
+    record { fits = sums-fit (loop-again c) whole }
 
 returns : tie.Need-returns Inv-loop μ-loop
 unfolding substitute
-returns c =
-    let a = c .before .before .args in
-    let e : c .before .loop .i ≡ 16 = omega arith in
-    c .before .loop .inv .1 ∙ ap (λ (n : ℕ). number 16 n (boxed (a .word) (a .x))) e
+returns c = sums-all (c .before .loop .inv) (omega arith)
 
 pub substituted-spec : {M : Type 1} → statement M
 substituted-spec =
@@ -74,12 +51,12 @@ substituted-spec =
     Inv-loop
     μ-loop
     loop-holds
-    group-requires
-    group-requires-2
-    mul-out
-    shl-out
+    (λ c κs. omega arith)
+    (λ c κs. omega arith)
+    (λ c. omega arith)
+    (λ c. omega arith)
     add-out
-    add-i
-    loop-less
+    (λ c. omega arith)
+    (λ c. omega arith)
     loop-again
     returns)

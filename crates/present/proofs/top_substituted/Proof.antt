@@ -13,21 +13,6 @@ use Rattle.present.proofs.KeyRegister.{top, top-lt, topped-lt}
 use Rattle.present.proofs.top_substituted.Statement.{statement}
 use Rattle.present.proofs.top_substituted.Tie as tie
 
-group-requires : tie.Need-group-requires
-group-requires c κs = search needs
-
-s-box-requires : tie.Need-s-box-requires
-s-box-requires c κs = search needs
-
-group-requires-2 : tie.Need-group-requires-2
-group-requires-2 c κs = search needs
-
-s-box-requires-2 : tie.Need-s-box-requires-2
-s-box-requires-2 c κs = search needs
-
-add-top : tie.Need-add-top
-add-top c = search needs
-
 returns : tie.Need-returns
 returns c =
     let s = c .before .before .before in
@@ -44,10 +29,10 @@ pub top-substituted-spec : {M : Type 1} → statement M
 top-substituted-spec =
     tie.close
     (tie.spec
-    group-requires
-    s-box-requires
-    group-requires-2
-    s-box-requires-2
-    add-top
+    (λ c κs. search needs)
+    (λ c κs. search needs)
+    (λ c κs. search needs)
+    (λ c κs. search needs)
+    (λ c. search needs)
     add-result
     returns)

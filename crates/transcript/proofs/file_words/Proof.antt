@@ -1,13 +1,14 @@
 -- The invariant: the first i words are the file's, the others as they were.
-use Prim.Native.Nat.{_≤_, _<_, _-_, _/_}
-use mathlib.Core.Path.{_≡_, refl, sym, _∙_}
+use Prim.Native.Nat.{ℕ, _≤_, _<_, _-_, _/_}
+use mathlib.Core.Path.{_≡_, refl, sym, ap, _∙_}
 use mathlib.Core.List.{_++_}
 use native.Mathlib.Omega.{arith}
 use lib.ListN.{length, take, drop}
 use borrow.Author.Needs.{needs}
 use borrow.Author.Tests.{eq-eqb, ne-eqb}
+use Rattle.basics.proofs.Filling.{filled-length, filled-more, filled-whole}
 use Rattle.transcript.specs.Files.{pairs}
-use Rattle.transcript.proofs.Files.{pairs-length, pair-at, lent-odd, lent-long, lent-fits, none-lent, filled-length, filled-more, filled-whole}
+use Rattle.transcript.proofs.Files.{pairs-length, pair-at, lent-odd, lent-long, lent-fits, none-lent}
 use Rattle.transcript.proofs.file_words.Statement.{statement}
 use Rattle.transcript.proofs.file_words.Tie as tie
 
@@ -27,7 +28,7 @@ fits : (t : tie.At-loop Inv-loop μ-loop) → length (pairs (start t .args .byte
 fits t = omega (arith, pairs-length (start t .args .bytes .now))
 
 same : (t : tie.At-loop Inv-loop μ-loop) → length (t .loop .words) ≡ length (start t .args .words .now)
-same t = filled-length (pairs (start t .args .bytes .now)) (start t .args .words .now) (t .loop .i) (within t) (fits t) (t .loop .words) (t .loop .inv .1)
+same t = ap length (t .loop .inv .1) ∙ filled-length (start t .args .words .now) (pairs (start t .args .bytes .now)) (t .loop .i) (within t) (fits t)
 
 returns : tie.Need-returns Inv-loop μ-loop
 returns c =
@@ -77,7 +78,8 @@ loop-again c =
     let t = c .before .before .before .before in
     let b = start t .args .bytes .now in
     let l : t .loop .i < length (pairs b) = omega (arith, pairs-length b) in
-    (omega arith, filled-more (pairs b) (start t .args .words .now) (t .loop .i) (within t) (fits t) (t .loop .words) (t .loop .inv .1) (c .word .result) l (c .word .ensures ∙ sym (pair-at b (t .loop .i) l)))
+    let v = c .word .ensures ∙ sym (pair-at b (t .loop .i) l) in
+    (omega arith, rw (t .loop .inv .1, v) (filled-more (start t .args .words .now) (pairs b) (t .loop .i) (omega (arith, fits t)) l))
 
 same-length : tie.Need-same-length Inv-loop μ-loop
 same-length c = same (c .before)
@@ -88,7 +90,9 @@ returns-3 c =
     let b = start t .args .bytes .now in
     let w = start t .args .words .now in
     let e = lent-fits (length w) b (eq-eqb _ _ (t .before .before .if1 .left)) (t .before .if2 .left) in
-    rw e (sym (pairs-length b), filled-whole (pairs b) w (t .loop .i) (within t) (fits t) (t .loop .words) (t .loop .inv .1) (length b / 2) (sym (pairs-length b)) (c .loop-test .left))
+    let q : t .loop .i ≡ length b / 2 = omega arith in
+    let whole = filled-whole w (pairs b) (t .loop .i) (omega (arith, pairs-length b)) in
+    rw e (sym (pairs-length b), t .loop .inv .1 ∙ whole ∙ ap (λ (n : ℕ). pairs b ++ drop n w) q)
 
 pub file-words-spec : {M : Type 1} → statement M
 file-words-spec =

@@ -19,7 +19,8 @@ lock-of-requires c κs = search needs
 sensed-at-requires : tie.Need-sensed-at-requires
 sensed-at-requires c κs = search needs
 
-sensed : (t : tie.After-sensed-at) → let o = t .before .before .before .args in t .sensed-at .result ≡ sensedAt (o .session) (numberOfKind map1 (tokenKind (o .token)))
+sensed : (t : tie.After-sensed-at) → let o = t .before .before .before .args in
+    t .sensed-at .result ≡ sensedAt (o .session) (numberOfKind map1 (tokenKind (o .token)))
 sensed t = let o = t .before .before .before .args in t .sensed-at .ensures ∙ ap (sensedAt (o .session)) (t .before .lock-of .ensures)
 
 returns : tie.Need-returns

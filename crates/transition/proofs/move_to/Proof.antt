@@ -6,7 +6,7 @@ use Rattle.partitions.specs.Map1.{map1}
 use Rattle.model.specs.Commands.{stateAt}
 use Rattle.chip.specs.Chip.{primitives}
 use Rattle.transition.specs.Permit.{movedAs}
-use Rattle.transition.proofs.Moving.{state-place}
+use Rattle.model.proofs.LifeCyclePlace.{state-place}
 use borrow.Author.Needs.{needs}
 use Rattle.transition.proofs.move_to.Statement.{statement}
 use Rattle.transition.proofs.move_to.Tie as tie
@@ -44,7 +44,7 @@ answered : (q : tie.After-program) → let o = start q .args in
 answered q =
     let o = start q .args in
     let e = q .before .before .before .state-words .ensures in
-    (q .program .ensures .0 ∙ ap₂ (programAnswer (o .cells .now)) state-place e, q .program .ensures .1 ∙ ap₂ (programCells (o .cells .now)) state-place e)
+    (q .program .ensures .0 ∙ ap₂ (programAnswer (o .cells .now)) (state-place primitives) e, q .program .ensures .1 ∙ ap₂ (programCells (o .cells .now)) (state-place primitives) e)
 
 returns : tie.Need-returns
 returns c =

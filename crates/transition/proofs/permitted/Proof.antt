@@ -60,9 +60,9 @@ abbrev given : tie.Start → ℕ
 given s = s .args .high * 2 ^ 64 + s .args .low
 
 -- an arm on the token that the table needs
-arm : (t : tie.After-token) (token : Token) (p : Permit) → let s = start t in t .token .given .0 .0 ≡ token
-    → p ≡ tokenPermit (s .args .session) (s .args .copy .now) (s .args .constants .now) token (given s)
-    → p ≡ permitOf (s .args .session) (s .args .copy .now) (s .args .constants .now) (transition (s .args .session .state) (s .args .target)) (given s)
+arm : (t : tie.After-token) (token : Token) (p : Permit) → let o = start t .args in t .token .given .0 .0 ≡ token
+    → p ≡ tokenPermit (o .session) (o .copy .now) (o .constants .now) token (given (start t))
+    → p ≡ permitOf (o .session) (o .copy .now) (o .constants .now) (transition (o .session .state) (o .target)) (given (start t))
 arm t token p = by-token _ _ _ _ _ _ token p (sym (t .before .before .transition .ensures) ∙ t .token .given .1)
 
 returns : tie.Need-returns
@@ -70,7 +70,8 @@ unfolding permitOf
 returns c =
     let t = c .before .before in
     let s = t .before .before .before in
-    ap (λ (e : Entry). permitOf (s .args .session) (s .args .copy .now) (s .args .constants .now) e (given s)) (sym (c .enum-told .given .1) ∙ t .transition .ensures)
+    let o = s .args in
+    ap (λ (e : Entry). permitOf (o .session) (o .copy .now) (o .constants .now) e (given s)) (sym (c .enum-told .given .1) ∙ t .transition .ensures)
 
 returns-2 : tie.Need-returns-2
 unfolding tokenPermit
@@ -83,29 +84,26 @@ returns-3 c =
     let t = e .before .before .before in
     arm t RawUnlock _ (e .enum-told3 .given .1) (c .compared .ensures ∙ ap (λ (x : ℕ). comparedAs (eqb x (given (start t)))) (c .before .eight-words .ensures))
 
+-- an arm on a stored token
+locked-arm : (t : tie.After-token) (token : Token) (p : Permit) → let o = start t .args in t .token .given .0 .0 ≡ token
+    → p ≡ lockedPermit (o .session) (o .copy .now) (t .token .given .0 .0) (given (start t))
+    → lockedPermit (o .session) (o .copy .now) token (given (start t)) ≡ tokenPermit (o .session) (o .copy .now) (o .constants .now) token (given (start t))
+    → p ≡ permitOf (o .session) (o .copy .now) (o .constants .now) (transition (o .session .state) (o .target)) (given (start t))
+locked-arm t token p e f g =
+    let o = start t .args in
+    arm t token p e (f ∙ ap (λ (token : Token). lockedPermit (o .session) (o .copy .now) token (given (start t))) e ∙ g)
+
 returns-4 : tie.Need-returns-4
 unfolding tokenPermit
-returns-4 c =
-    let t = c .before .before .before .before in
-    let s = start t in
-    let e = c .before .enum-told4 .given .1 in
-    arm t TestUnlock _ e (c .locked-permit .ensures ∙ ap (λ (token : Token). lockedPermit (s .args .session) (s .args .copy .now) token (given s)) e)
+returns-4 c = locked-arm (c .before .before .before .before) TestUnlock _ (c .before .enum-told4 .given .1) (c .locked-permit .ensures) refl
 
 returns-5 : tie.Need-returns-5
 unfolding tokenPermit
-returns-5 c =
-    let t = c .before .before .before .before in
-    let s = start t in
-    let e = c .before .enum-told5 .given .1 in
-    arm t TestExit _ e (c .locked-permit2 .ensures ∙ ap (λ (token : Token). lockedPermit (s .args .session) (s .args .copy .now) token (given s)) e)
+returns-5 c = locked-arm (c .before .before .before .before) TestExit _ (c .before .enum-told5 .given .1) (c .locked-permit2 .ensures) refl
 
 returns-6 : tie.Need-returns-6
 unfolding tokenPermit
-returns-6 c =
-    let t = c .before .before .before .before in
-    let s = start t in
-    let e = c .before .enum-told6 .given .1 in
-    arm t Rma _ e (c .locked-permit3 .ensures ∙ ap (λ (token : Token). lockedPermit (s .args .session) (s .args .copy .now) token (given s)) e)
+returns-6 c = locked-arm (c .before .before .before .before) Rma _ (c .before .enum-told6 .given .1) (c .locked-permit3 .ensures) refl
 
 pub permitted-spec : {M : Type 1} → statement M
 permitted-spec =

@@ -3,7 +3,8 @@ use mathlib.Core.Path.{ap, ap₂, _∙_}
 use native.Mathlib.Numerals.{add-one}
 use Rattle.words.specs.Programming.{programAnswer, programCells}
 use Rattle.life_cycle.specs.Words.{counterWords}
-use Rattle.transition.proofs.Moving.{counter-place}
+use Rattle.model.proofs.LifeCyclePlace.{counter-place}
+use Rattle.chip.specs.Chip.{primitives}
 use borrow.Author.Needs.{needs}
 use Rattle.transition.proofs.spend.Statement.{statement}
 use Rattle.transition.proofs.spend.Tie as tie
@@ -29,7 +30,7 @@ returns c =
     let w = q .before .before .before in
     let o = w .before .before .before .args in
     let e = w .counter-words .ensures ∙ ap (counterWords (o .constants .now)) (add-one (o .count)) in
-    (q .program .ensures .0 ∙ ap₂ (programAnswer (o .cells .now)) counter-place e, q .program .ensures .1 ∙ ap₂ (programCells (o .cells .now)) counter-place e)
+    (q .program .ensures .0 ∙ ap₂ (programAnswer (o .cells .now)) (counter-place primitives) e, q .program .ensures .1 ∙ ap₂ (programCells (o .cells .now)) (counter-place primitives) e)
 
 pub spend-spec : {M : Type 1} → statement M
 spend-spec =

@@ -51,8 +51,9 @@ done w = sym (w .before .before .before .before .before .spend .ensures .0) ∙ 
 returns : tie.Need-returns
 returns c =
     let t = c .before .before .before in
-    let o = t .before .before .before .before .args in
-    refused (Transition (o .target) (o .token-high) (o .token-low)) (lent (t .before .before .before .before)) tt _ (sym (t .admit .ensures) ∙ c .before .answer .given .1)
+    let s = t .before .before .before .before in
+    let o = s .args in
+    refused (Transition (o .target) (o .token-high) (o .token-low)) (lent s) tt _ (sym (t .admit .ensures) ∙ c .before .answer .given .1)
 
 enum-told : tie.Need-enum-told
 enum-told c = search needs

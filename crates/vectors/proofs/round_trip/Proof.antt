@@ -9,12 +9,6 @@ use Rattle.present.proofs.Inverse.{decrypt-encrypt}
 use Rattle.vectors.proofs.round_trip.Statement.{statement}
 use Rattle.vectors.proofs.round_trip.Tie as tie
 
-encrypt-requires : tie.Need-encrypt-requires
-encrypt-requires c κs = search needs
-
-decrypt-requires : tie.Need-decrypt-requires
-decrypt-requires c κs = search needs
-
 expect-requires : tie.Need-expect-requires
 expect-requires c κs =
     let s = c .before .before in
@@ -23,8 +17,5 @@ expect-requires c κs =
     eq-eqb (c .decrypt .result) (s .args .block)
     (c .decrypt .ensures ∙ ap (decryptBlock key) (c .before .encrypt .ensures) ∙ decrypt-encrypt key (s .args .block) fits (s .fits .block .fits))
 
-returns : tie.Need-returns
-returns c = search needs
-
 pub round-trip-spec : {M : Type 1} → statement M
-round-trip-spec = tie.close (tie.spec encrypt-requires decrypt-requires expect-requires returns)
+round-trip-spec = tie.close (tie.spec (λ c κs. search needs) (λ c κs. search needs) expect-requires (λ c. search needs))

@@ -9,21 +9,6 @@ use Rattle.words.proofs.Parts.{number-part, rest-slice, zeros-past}
 use Rattle.words.proofs.block_at.Statement.{statement}
 use Rattle.words.proofs.block_at.Tie as tie
 
-mul-join : tie.Need-mul-join
-mul-join c = search needs
-
-sub-join : tie.Need-sub-join
-sub-join c = search needs
-
-part-join-start : tie.Need-part-join-start
-part-join-start c = search needs
-
-part-join-end : tie.Need-part-join-end
-part-join-end c = search needs
-
-join-requires : tie.Need-join-requires
-join-requires c κs = search needs
-
 returns : tie.Need-returns
 returns c =
     let o = c .before .before .before .before in
@@ -36,4 +21,4 @@ returns-2 c = sym (zeros-past (c .before .before .args .words .now) (c .before .
 pub block-at-spec : {M : Type 1} → statement M
 block-at-spec =
     tie.close
-    (tie.spec mul-join sub-join part-join-start part-join-end join-requires returns returns-2)
+    (tie.spec (λ c. search needs) (λ c. search needs) (λ c. search needs) (λ c. search needs) (λ c κs. search needs) returns returns-2)

@@ -13,9 +13,6 @@ slice-aggregate-join-few c = sym (length-take-le 4 (c .before .before .before .a
 join-few-requires : tie.Need-join-few-requires
 join-few-requires c κs = le-of-eq (length-take-le 4 (c .before .before .before .args .words .now) (c .before .if1 .taken))
 
-join-few-requires-2 : tie.Need-join-few-requires-2
-join-few-requires-2 c κs = omega arith
-
 returns : tie.Need-returns
 returns c = c .join-few .ensures
 
@@ -27,4 +24,4 @@ returns-2 c =
 pub join-spec : {M : Type 1} → statement M
 join-spec =
     tie.close
-    (tie.spec slice-aggregate-join-few join-few-requires join-few-requires-2 returns returns-2)
+    (tie.spec slice-aggregate-join-few join-few-requires (λ c κs. omega arith) returns returns-2)

@@ -20,18 +20,6 @@ loop-holds : tie.Need-loop-holds Inv-loop μ-loop
 unfolding numberOf
 loop-holds c = (omega arith, rw (drop-length (c .before .args .words .now)))
 
-sub-i : tie.Need-sub-i Inv-loop μ-loop
-sub-i c = search needs
-
-mul-wide : tie.Need-mul-wide Inv-loop μ-loop
-mul-wide c = search needs
-
-shared-slice-read-wide : tie.Need-shared-slice-read-wide Inv-loop μ-loop
-shared-slice-read-wide c = search needs
-
-wide-requires : tie.Need-wide-requires Inv-loop μ-loop
-wide-requires c κs = search needs
-
 small : (c : tie.After-wide Inv-loop μ-loop) → (c .before .before .before .loop .x < 65536 ^ 3) × (c .wide .result < 65536)
 small c =
     let l = c .before .before .before in
@@ -45,9 +33,6 @@ mul-x c = let s = small c in omega arith
 
 add-x : tie.Need-add-x Inv-loop μ-loop
 add-x c = let s = small c in omega arith
-
-loop-less : tie.Need-loop-less Inv-loop μ-loop
-loop-less c = search needs
 
 loop-again : tie.Need-loop-again Inv-loop μ-loop
 loop-again c =
@@ -69,12 +54,12 @@ join-few-spec =
     Inv-loop
     μ-loop
     loop-holds
-    sub-i
-    mul-wide
-    shared-slice-read-wide
-    wide-requires
+    (λ c. search needs)
+    (λ c. search needs)
+    (λ c. search needs)
+    (λ c κs. search needs)
     mul-x
     add-x
-    loop-less
+    (λ c. search needs)
     loop-again
     returns)

@@ -13,28 +13,7 @@ use Rattle.words.proofs.program.Statement.{statement}
 use Rattle.words.proofs.program.Tie as tie
 
 returns : tie.Need-returns
-returns c = past-cells (c .before .before .before .args .cells .now) (c .before .before .before .args .value .now) (c .before .before .before .args .at) (c .if1 .taken)
-
-sub-least : tie.Need-sub-least
-sub-least c = search needs
-
-least-requires : tie.Need-least-requires
-least-requires c κs = search needs
-
-add-end : tie.Need-add-end
-add-end c = search needs
-
-mul-program-part : tie.Need-mul-program-part
-mul-program-part c = search needs
-
-sub-program-part : tie.Need-sub-program-part
-sub-program-part c = search needs
-
-part-program-part-start : tie.Need-part-program-part-start
-part-program-part-start c = search needs
-
-part-program-part-end : tie.Need-part-program-part-end
-part-program-part-end c = search needs
+returns c = let o = c .before .before .before .args in past-cells (o .cells .now) (o .value .now) (o .at) (c .if1 .taken)
 
 slice-aggregate-program-part : tie.Need-slice-aggregate-program-part
 slice-aggregate-program-part c =
@@ -48,12 +27,6 @@ program-part-requires c κs =
     let e : at + n - at ≡ n = omega arith in
     rw e (same-lengths (o .args .cells .now) (o .args .value .now) at n (omega arith) (omega arith) (λ l. omega arith))
 
-enum-told : tie.Need-enum-told
-enum-told c = search needs
-
-enum-known-i : tie.Need-enum-known-i
-enum-known-i c = search needs
-
 -- what the call of `program_part` leaves
 module _ (t : tie.After-program-part) where
   abbrev start : tie.Start
@@ -65,58 +38,59 @@ module _ (t : tie.After-program-part) where
   abbrev value : List ℕ
   value = start .args .value .now
 
+  abbrev at : ℕ
+  at = start .args .at
+
   abbrev count : ℕ
   count = t .before .before .before .least .result
 
-  size : start .args .at + count - start .args .at ≡ count
+  size : at + count - at ≡ count
   size = omega arith
 
-  whole : (counted (start .args .at) (t .program-part .result) ≡ programAnswer cells (start .args .at) value)
-      × (take (start .args .at) cells ++ (t .program-part .last .0 ++ drop (start .args .at + count - start .args .at) (drop (start .args .at) cells)) ≡ programCells cells (start .args .at) value)
-  whole = handed-back cells value (start .args .at) count (omega arith) (omega arith) (λ l. omega arith) _ size (t .program-part .ensures .0) (t .program-part .ensures .1)
+  whole : (counted at (t .program-part .result) ≡ programAnswer cells at value)
+      × (take at cells ++ (t .program-part .last .0 ++ drop (at + count - at) (drop at cells)) ≡ programCells cells at value)
+  whole =
+      let e = t .program-part .ensures in
+      handed-back cells value at count (omega arith) (omega arith) (λ l. omega arith) _ size (e .0) (e .1)
 
   within : (i : ℕ) → t .program-part .result ≡ Refused i → i < count
-  within i e = refused-within cells value (start .args .at) count (omega arith) (omega arith) (λ l. omega arith) _ size i (sym (t .program-part .ensures .0) ∙ e)
+  within i e =
+      let a = sym (t .program-part .ensures .0) ∙ e in
+      refused-within cells value at count (omega arith) (omega arith) (λ l. omega arith) _ size i a
 
 add-t18 : tie.Need-add-t18
 add-t18 c =
     let t = c .before .before .before .before .before in
     omega (arith, within t (c .before .i .given .0 .0) (c .before .i .given .1))
 
-same-length : tie.Need-same-length
-same-length c = search needs
-
 returns-2 : tie.Need-returns-2
 returns-2 c =
     let t = c .before .before .before .before in
-    (ap (counted (start t .args .at)) (sym (c .enum-told .given .1)) ∙ whole t .0, whole t .1)
-
-same-length-2 : tie.Need-same-length-2
-same-length-2 c = search needs
+    (ap (counted (at t)) (sym (c .enum-told .given .1)) ∙ whole t .0, whole t .1)
 
 returns-3 : tie.Need-returns-3
 returns-3 c =
     let t = c .before .before .before .before .before in
-    (ap (counted (start t .args .at)) (sym (c .before .i .given .1)) ∙ whole t .0, whole t .1)
+    (ap (counted (at t)) (sym (c .before .i .given .1)) ∙ whole t .0, whole t .1)
 
 pub program-spec : {M : Type 1} → statement M
 program-spec =
     tie.close
     (tie.spec
     returns
-    sub-least
-    least-requires
-    add-end
-    mul-program-part
-    sub-program-part
-    part-program-part-start
-    part-program-part-end
+    (λ c. search needs)
+    (λ c κs. search needs)
+    (λ c. search needs)
+    (λ c. search needs)
+    (λ c. search needs)
+    (λ c. search needs)
+    (λ c. search needs)
     slice-aggregate-program-part
     program-part-requires
-    enum-told
-    enum-known-i
+    (λ c. search needs)
+    (λ c. search needs)
     add-t18
-    same-length
+    (λ c. search needs)
     returns-2
-    same-length-2
+    (λ c. search needs)
     returns-3)

@@ -6,21 +6,6 @@ use Rattle.words.proofs.Lent.{sets-whole}
 use Rattle.words.proofs.program_part.Statement.{statement}
 use Rattle.words.proofs.program_part.Tie as tie
 
-tested-requires : tie.Need-tested-requires
-tested-requires c κs = search needs
-
-enum-told : tie.Need-enum-told
-enum-told c = search needs
-
-store-requires : tie.Need-store-requires
-store-requires c κs = search needs
-
-enum-told-2 : tie.Need-enum-told-2
-enum-told-2 c = search needs
-
-same-length : tie.Need-same-length
-same-length c = search needs
-
 returns : tie.Need-returns
 returns c =
     let t = c .before .before .before .before .before .before in
@@ -29,9 +14,6 @@ returns c =
     let v = o .args .value .now in
     let done = stored-done p v 0 (sym (t .tested .ensures) ∙ c .before .before .before .before .enum-told .given .1) in
     (t .tested .ensures, c .before .before .store .ensures ∙ sym (done ∙ sets-whole p v (o .pre)))
-
-same-length-2 : tie.Need-same-length-2
-same-length-2 c = search needs
 
 returns-2 : tie.Need-returns-2
 returns-2 c =
@@ -44,11 +26,11 @@ pub program-part-spec : {M : Type 1} → statement M
 program-part-spec =
     tie.close
     (tie.spec
-    tested-requires
-    enum-told
-    store-requires
-    enum-told-2
-    same-length
+    (λ c κs. search needs)
+    (λ c. search needs)
+    (λ c κs. search needs)
+    (λ c. search needs)
+    (λ c. search needs)
     returns
-    same-length-2
+    (λ c. search needs)
     returns-2)

@@ -11,9 +11,6 @@ use Rattle.partitions.proofs.Partition.granule_at.Tie as tie
 half-quotient : (a g : ℕ) → a / g * (g / 2) ≤ a
 half-quotient a g = le-trans (mul-le-mul-left (a / g) (div-le-self g 2)) (div-mul-le-self a g)
 
-div-t7 : tie.Need-div-t7
-div-t7 c = search needs
-
 mul-t8 : tie.Need-mul-t8
 mul-t8 c = record { fits = omega (arith, half-quotient (c .before .args .address) (c .before .args .self .granule)) }
 
@@ -28,4 +25,4 @@ returns-2 c =
     (sym (w .0), sym (w .1))
 
 pub granule-at-spec : {M : Type 1} → statement M
-granule-at-spec = tie.close (tie.spec div-t7 mul-t8 returns returns-2)
+granule-at-spec = tie.close (tie.spec (λ c. search needs) mul-t8 returns returns-2)

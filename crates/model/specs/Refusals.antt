@@ -1,0 +1,52 @@
+-- Demand 1, its last sentence, as one claim about every machine, whatever is lent: "A refusal changes nothing (but what the paper says of a life
+-- cycle request)."
+use Prim.Native.Nat.{ℕ}
+use mathlib.Core.Path.{_≡_}
+use mathlib.Core.Bool.{Bool, true, false, _||_}
+use lib.Dec.{eqb}
+use Rattle.basics.specs.Choice.{if_then_else_}
+use Rattle.partitions.specs.Map.{Map}
+use Rattle.model.specs.declared.Reason.{Reason}
+use Rattle.model.specs.declared.Reason.the-variants.{BitCleared}
+use Rattle.model.specs.declared.Phase.{Phase}
+use Rattle.model.specs.declared.Phase.the-variants.{Inert, Dead}
+use Rattle.model.specs.declared.Command.{Command}
+use Rattle.model.specs.declared.Command.the-variants.{Transition, PowerUp}
+use Rattle.model.specs.Session.{reasonCode, inPhase}
+use Rattle.model.specs.Answers.{codeOf}
+use Rattle.model.specs.Lent.{Machine, Primitives}
+use Rattle.model.specs.Step.{machineAfter, answerTo}
+use Rattle.model.specs.Beyond.{quiet}
+
+-- the codes with which what is lent is refused
+abbrev pub judged : ℕ → Bool
+judged code = eqb code 0x10 || eqb code 0x12
+
+-- the codes with which a transition is refused before anything else: these, 0x07, and "0x11 changes nothing"
+unfoldable pub early : ℕ → Bool
+early code = judged code || eqb code 0x07 || eqb code 0x11
+
+-- "Every later answer leaves the phase Inert (Dead 4 after a 4)."
+unfoldable pub phaseAfter : ℕ → Phase
+phaseAfter code = if eqb code 0x04 then Dead BitCleared else Inert
+
+module _ (prims : Primitives) (map : Map) where
+  pub record Refusals : Type 0 where
+    -- a read, write, front read, digest or read lock that does not answer 0 leaves cells, copy and record as they were
+    pub commands : (m : Machine) (x : Command) → quiet x → (codeOf (answerTo prims map x m) ≡ 0x00 → ⊥) → machineAfter prims map x m ≡ m
+    -- a power-up never changes a cell, and one that answers 0x10 or 0x12 changes nothing at all
+    pub powerUps : (m : Machine)
+        → (machineAfter prims map PowerUp m .lent .cells ≡ m .lent .cells)
+        × (judged (codeOf (answerTo prims map PowerUp m)) ≡ true → machineAfter prims map PowerUp m ≡ m)
+    -- a transition that is refused early changes nothing; every later answer leaves the copy and the record but for its phase, and 0x20 leaves the cells
+    pub transitions : (m : Machine) (target high low : ℕ)
+        → let x = Transition target high low in
+        let code = codeOf (answerTo prims map x m) in
+        (early code ≡ true → machineAfter prims map x m ≡ m)
+        × (early code ≡ false
+        → (machineAfter prims map x m .lent .copy ≡ m .lent .copy)
+        × (machineAfter prims map x m .session ≡ inPhase (phaseAfter code) (m .session))
+        × (code ≡ 0x20 → machineAfter prims map x m .lent .cells ≡ m .lent .cells))
+    -- a command that changes something and leaves the phase Dead has answered the reason
+    pub deaths : (m : Machine) (x : Command) (reason : Reason) → (machineAfter prims map x m ≡ m → ⊥)
+        → machineAfter prims map x m .session .phase ≡ Dead reason → codeOf (answerTo prims map x m) ≡ reasonCode reason
