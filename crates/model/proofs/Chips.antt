@@ -129,7 +129,7 @@ module _ (prims : Primitives) (map : Map) (F : fit map ≡ true) (H : ℕ → Ty
         ap numberOf (part-same k k′ _ _ (λ j lo hi. g .at j (record { low = omega (arith, granule-within map F l); front = rw (word-number map F l lo hi) f })))
 
     computed-same : (a : ℕ) → a < limit map → (H (numberAt map a) → ⊥)
-        → computedDigest prims map t (partitionAt map a) c ≡ computedDigest prims map t (partitionAt map a) d
+        → computedDigest prims t (partitionAt map a) c ≡ computedDigest prims t (partitionAt map a) d
     unfolding computedDigest dataWords partitionAt
     computed-same a l n =
         let i = numberAt map a in
@@ -145,7 +145,7 @@ module _ (prims : Primitives) (map : Map) (F : fit map ≡ true) (H : ℕ → Ty
     command-same (Read a) r = if-same (λ e. refl) λ l. if-same (λ e. refl) λ e. if-same
         (λ i. ap (λ (x : ℕ). say (Done x) stay) (granule-same a (leb-false _ _ l) (λ j lo hi. digest-shown a j (leb-false _ _ l) i lo hi)))
         λ i. if-same (λ e. refl) λ e. if-same (λ e. refl)
-        λ z. ap (λ (x : ℕ). say (Done (unscrambled prims map t (partitionAt map a) x)) stay)
+        λ z. ap (λ (x : ℕ). say (Done (unscrambled prims t (partitionAt map a) x)) stay)
         (granule-same a (leb-false _ _ l) (λ j lo hi. data-shown a j (leb-false _ _ l) r z lo hi))
     command-same (FrontRead a) r = if-same (λ t. refl) λ l. if-same (λ t. refl) λ f. if-same (λ t. refl) λ i.
         ap (λ (x : ℕ). say (Done x) stay) (front-same a (leb-false _ _ l) (not-false _ f))
@@ -217,7 +217,7 @@ module _ (prims : Primitives) (map : Map) (F : fit map ≡ true) (H : ℕ → Ty
   unfolding storedDigest
   stored-alike c d h n l e = ap numberOf (part-same c d _ 4 (λ j lo hi. h .at j (digest-shows n l e j lo hi)))
 
-  life-shown : (j : ℕ) → counterAt prims map ≤ j → j < counterAt prims map + 44 → Shown map H j
+  life-shown : (j : ℕ) → counterAt map ≤ j → j < counterAt map + 44 → Shown map H j
   life-shown j lo hi = closed-shown j (life-words prims map F j lo hi)
 
   copies-alike : (t c d : List ℕ) → Same (Shown map H) c d
@@ -236,7 +236,7 @@ module _ (prims : Primitives) (map : Map) (F : fit map ≡ true) (H : ℕ → Ty
   woken-views (wakes state count) c d k k′ t h = copies-alike t c d h
 
   woken-records : (w : Waking) (c d k k′ t : List ℕ) → Same (Shown map H) c d
-      → wokenSession prims map w (record { cells = c; copy = k; constants = t }) ≡ wokenSession prims map w (record { cells = d; copy = k′; constants = t })
+      → wokenSession map w (record { cells = c; copy = k; constants = t }) ≡ wokenSession map w (record { cells = d; copy = k′; constants = t })
   unfolding wokenSession
   woken-records (fails reason answer) c d k k′ t h = refl
   woken-records (wakes state count) c d k k′ t h =
@@ -250,7 +250,7 @@ module _ (prims : Primitives) (map : Map) (F : fit map ≡ true) (H : ℕ → Ty
   up-made c d k k′ t s s′ r r′ h z g =
       let e = ap₂ wakingOf (sym (g .0)) (sym (life-same prims map F c d k k′ t (λ j lo hi. h .at j (life-shown j lo hi)))) in
       record {
-        answer = ap (wokenAnswer prims map) (sym e);
+        answer = ap (wokenAnswer) (sym e);
         pair = record {
           right = up-right prims map (made c k t s) r;
           rightToo = up-right prims map (made d k′ t s′) r′;
