@@ -11,7 +11,6 @@ use Rattle.present.specs.Present.{encryptBlock, decryptBlock}
 use Rattle.digest.specs.Digest.{digestWords}
 use Rattle.partitions.specs.declared.Partition.{Partition}
 use Rattle.partitions.specs.Map.{rightsOf}
-use Rattle.partitions.specs.Map1.{map1}
 use Rattle.model.specs.Lent.{keyOf, digestStart, digestFinal}
 use Rattle.model.specs.Commands.{dataWords, scrambled, unscrambled, computedDigest}
 use Rattle.chip.specs.Chip.{primitives}

@@ -10,7 +10,6 @@ ghost use mathlib.Core.Path.{_≡_};
 ghost use Prim.Native.Nat.{_+_, _*_, _^_};
 ghost use Rattle.words.specs.Words.{numberOf, partAt};
 ghost use Rattle.digest.specs.Digest.{digestWords};
-ghost use Rattle.partitions.specs.Map1.{map1};
 ghost use Rattle.model.specs.Lent.{keyOf, digestStart, digestFinal};
 ghost use Rattle.model.specs.Commands.{storedDigest, scrambled, unscrambled};
 ghost use Rattle.chip.specs.Chip.{primitives};

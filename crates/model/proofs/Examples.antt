@@ -1,44 +1,40 @@
--- Premises are met: computed runs beside the theorems. The toy cipher of the runs flips the lowest bit of a block, and the toy digest is always 1.
+-- Premises are met: computed runs beside the theorems, each handed to the theorem where its conclusion is not plain.
 use mathlib.Core.Path.{_≡_, refl, sym, subst}
-use mathlib.Core.Bool.{true}
+use mathlib.Core.Bool.{true, false}
 use mathlib.Core.List.{List, [], _∷_, _++_}
-use Prim.Native.Nat.{ℕ, _<_}
+use Prim.Native.Nat.{ℕ, _≤_, _<_}
 use native.Mathlib.Omega.{arith}
-use lib.Bits.{bitXor, xor-lt}
+use lib.Bits.{xor-lt}
 use lib.Dec.{eqb, ltb, lit<}
-use lib.ListN.{length, getD, set, replicate, List·getD-eq-default}
+use lib.ListN.{length, getD, set, List·getD-eq-default}
 use lib.Seq.{getD-set-other}
 use borrow.Author.Tests.{eqb-true, eqb-false, ltb-true, ltb-false}
 use Rattle.basics.proofs.Choice.{by-cases}
 use Rattle.basics.proofs.Range.{all-at}
 use Rattle.basics.proofs.Bits.{xor-xor}
-use Rattle.partitions.specs.Map.{partition, partitionAt, firstWord}
+use Rattle.partitions.specs.Map.{numberAt, partition, partitionAt, inDigest, firstWord}
 use Rattle.partitions.specs.Map1.{map1}
 use Rattle.partitions.proofs.Map1.{map1-fit}
-use Rattle.model.specs.declared.Answer.the-variants.{Done, Denied, DigestFailed, NotReady, LifeCycleFailed, TokenDiffers}
+use Rattle.model.specs.declared.Answer.the-variants.{Done, Denied}
 use Rattle.model.specs.declared.Command.{Command}
 use Rattle.model.specs.declared.Command.the-variants.{Read, Write, FrontRead, Digest, ReadLock, Transition, PowerUp}
-use Rattle.model.specs.Lent.{Machine, Primitives}
+use Rattle.model.specs.Lent.{Machine}
 use Rattle.life_cycle.specs.declared.LifeCycle.the-variants.{Valid}
 use Rattle.model.specs.Commands.{storedDigest}
 use Rattle.model.specs.PowerUp.{lifeCycleIn}
 use Rattle.model.specs.Step.{after, answers, machineAfter, answerTo}
-use Rattle.model.specs.Cases.{chip, blank}
+use Rattle.model.specs.Cases.{blank}
 use Rattle.model.specs.Terms.{Right, Cipher, Digested, Lasts, Spared, usedValue, Allowed, Matched, HiddenWord, Alike}
 use Rattle.model.specs.Demand3.{Demand3, Ready}
-use Rattle.model.specs.Beyond.{Beyond}
+use Rattle.model.specs.Session.{readLocked}
+use Rattle.model.specs.Beyond.{Beyond, stays, moves}
 use Rattle.model.proofs.Everything.{everything}
-use Rattle.model.proofs.Theorems.{demand3, beyond}
-
-abbrev toy : Primitives
-toy = record { encrypt = λ key block. bitXor block 1; decrypt = λ key block. bitXor block 1; digest = λ start final words. 1 }
+use Rattle.model.proofs.ToyChip.{toy, off, tested}
+use Rattle.model.proofs.Theorems.{refusals, demand3, beyond}
+use Rattle.model.proofs.Strokes.{rising}
 
 toy-cipher : Cipher toy
 toy-cipher = record { fits = λ key block k b. xor-lt 64 block 1 b (lit< tt); back = λ key block k b. xor-xor block 1 }
-
--- keys and digest constants of the runs are zero
-abbrev off : List ℕ → Machine
-off cells = chip toy (λ i. 0) cells
 
 abbrev toy-demand3 : Demand3 toy map1
 toy-demand3 = demand3 toy toy-cipher map1 map1-fit
@@ -72,6 +68,38 @@ reads-back : answerTo toy map1 (Read 0x000) wrote ≡ Done 0x55
 unfolding everything wrote
 reads-back = refl
 
+one-granule : firstWord (partitionAt map1 0x001) 0x001 ≡ firstWord (partitionAt map1 0x003) 0x003
+unfolding everything
+one-granule = refl
+
+-- ---- Ready lasts through a refused write to the granule, a read lock elsewhere and a transition that answers 0x11
+
+staying : List Command
+staying = Write 0x002 0xAA ∷ ReadLock 1 ∷ Transition 21 0 0 ∷ []
+
+still-ready : Lasts toy map1 staying wrote
+unfolding everything Lasts staying wrote
+still-ready = (tt, (tt, (refl, tt)))
+
+spared : Spared toy map1 0x003 staying wrote
+unfolding everything Spared staying wrote
+spared = (λ same done. omega arith, (tt, (tt, tt)))
+
+not-read-locked : inDigest (partitionAt map1 0x001) 0x001 ≡ false → readLocked (after toy map1 staying wrote .session) (numberAt map1 0x001) ≡ false
+unfolding everything staying wrote
+not-read-locked e = refl
+
+reads-meanwhile : answerTo toy map1 (Read 0x001) (after toy map1 staying wrote) ≡ Done (usedValue map1 0x003 0x55)
+unfolding wrote after
+reads-meanwhile =
+    toy-demand3 .writes (off blank) (right blank refl) [] [] woken 0x003 0x55 (lit< tt) allowed .1 staying still-ready spared 0x001 (unfold everything in (lit< tt)) one-granule
+    not-read-locked
+
+-- secret data is scrambled and reads back while it is open
+secret-reads-back : answers toy map1 (PowerUp ∷ Write 0x250 0x77 ∷ Read 0x257 ∷ []) (off blank) ≡ Done 0 ∷ Done 0 ∷ Done 0x77 ∷ []
+unfolding everything
+secret-reads-back = refl
+
 -- ---- it lasts: a write that clears a bit is refused, a transition and a power-up follow, and 0x001 still reads the same
 
 passing : List Command
@@ -84,10 +112,6 @@ passed = (λ same done. omega arith, (tt, (tt, tt)))
 reads-on : answerTo toy map1 (Read 0x001) (after toy map1 passing wrote) ≡ Done 0x55
 unfolding everything passing wrote
 reads-on = refl
-
-one-granule : firstWord (partitionAt map1 0x001) 0x001 ≡ firstWord (partitionAt map1 0x003) 0x003
-unfolding everything
-one-granule = refl
 
 stored-on : 0x55 ≡ usedValue map1 0x003 0x55
 unfolding wrote after
@@ -151,7 +175,16 @@ both-answer = refl
 
 chips-agree : answers toy map1 (PowerUp ∷ trying) (off one) ≡ answers toy map1 (PowerUp ∷ trying) (off other)
 chips-agree =
-    toy-demand3 .chips (off one) (off other) (right one (unfold one in refl)) (right other (unfold one other in refl)) refl refl alike trying matched .0
+    toy-demand3 .chips (off one) (off other) (right one (unfold one in refl)) (right other (unfold one other in refl)) refl alike trying matched .0
+
+-- ---- two chips and a hidden token: TEST_EXIT differs, and a transition compares TEST_UNLOCK on both
+
+exchanged : List ℕ
+exchanged = set tested 304 9
+
+token-matched : Matched toy map1 (PowerUp ∷ Transition 3 0 0x70 ∷ []) (off tested) (off exchanged)
+unfolding everything Matched tested exchanged
+token-matched = (tt, (refl, tt), ((refl, tt), tt, tt))
 
 -- ---- the device code: HW_CFG locked with the DEVICE_ID's first word 0x1234; a later front read that answers 0 shows it
 
@@ -168,63 +201,21 @@ course-taken : lifeCycleIn map1 (after toy map1 (PowerUp ∷ Transition 1 0 7 �
 unfolding everything
 course-taken = refl
 
--- ---- a token: SECRET0 locked with TEST_UNLOCK 0x70 (stored with its lowest bit flipped in each block); TEST_LOCKED0 goes to TEST_UNLOCKED1
-
-tested : List ℕ
-tested =
-    replicate 296 0 ++ (0x71 ∷ 0 ∷ 0 ∷ 0 ∷ 1 ∷ 0 ∷ 0 ∷ 0 ∷ []) ++ replicate 8 0 ++ (1 ∷ replicate 91 0) ++ (3 ∷ 3 ∷ replicate 22 1) ++ (3 ∷ 3 ∷ replicate 18 1)
-
-token-taken : answers toy map1 (PowerUp ∷ Transition 3 0 0x70 ∷ PowerUp ∷ []) (off tested) ≡ Done 514 ∷ Done 0 ∷ Done 771 ∷ []
-unfolding everything tested
-token-taken = refl
-
-token-refused : answers toy map1 (PowerUp ∷ Transition 3 0 0x71 ∷ PowerUp ∷ []) (off tested) ≡ Done 514 ∷ TokenDiffers ∷ Done 770 ∷ []
-unfolding everything tested
-token-refused = refl
-
--- ---- a digest: with a digest that is the lowest data word, SECRET0's is taken over the stored words
-
-summing : Primitives
-summing = record { encrypt = λ key block. bitXor block 1; decrypt = λ key block. bitXor block 1; digest = λ start final words. getD words 0 0 }
-
-digest-taken :
-    answers summing map1 (PowerUp ∷ Write 0x250 0x40 ∷ Digest 0x250 ∷ Write 0x258 0x40 ∷ PowerUp ∷ Read 0x250 ∷ Read 0x270 ∷ []) (chip summing (λ i. 0) blank)
-    ≡ Done 0 ∷ Done 0 ∷ Done 0x41 ∷ Done 0 ∷ Done 0 ∷ Denied ∷ Done 0x41 ∷ []
-unfolding everything summing
-digest-taken = refl
-
--- ---- read locks last until power-up, and locking again answers 0
-
-locks-last :
-    answers toy map1 (PowerUp ∷ ReadLock 1 ∷ ReadLock 1 ∷ Read 0x100 ∷ PowerUp ∷ Read 0x100 ∷ ReadLock 2 ∷ []) (off blank)
-    ≡ Done 0 ∷ Done 0 ∷ Done 0 ∷ Denied ∷ Done 0 ∷ Done 0 ∷ Denied ∷ []
+-- the count of a course rises
+count-risen : 0 ≤ 1
 unfolding everything
-locks-last = refl
+count-risen = rising .counts 0 0 1 1 (moves stays refl)
 
--- ---- power-ups that fail: SCRAP, words that decode to nothing, a digest that differs; then every command but power-up answers 7
+-- ---- a quiet list leaves the copy: a write and a digest command show only after a power-up
 
-scrapped : List ℕ
-scrapped = replicate 404 0 ++ (3 ∷ replicate 23 1) ++ replicate 20 3
+quietly : List Command
+quietly = Write 0x200 0x99 ∷ Digest 0x200 ∷ ReadLock 0 ∷ []
 
-scrap-found : answers toy map1 (PowerUp ∷ Read 0 ∷ []) (off scrapped) ≡ LifeCycleFailed 276 ∷ NotReady ∷ []
-unfolding everything scrapped
-scrap-found = refl
+copy-left : after toy map1 quietly wrote .lent .copy ≡ wrote .lent .copy
+unfolding quietly
+copy-left = toy-beyond .sensing wrote quietly (tt, (tt, (tt, tt))) .0
 
-damaged : List ℕ
-damaged = set scrapped 430 2
+-- ---- a refusal: a denied write leaves the machine
 
-invalid-found : answers toy map1 (PowerUp ∷ FrontRead 0x200 ∷ []) (off damaged) ≡ LifeCycleFailed 0xFFFF ∷ NotReady ∷ []
-unfolding everything scrapped damaged
-invalid-found = refl
-
-forged : List ℕ
-forged = set (set blank 292 1) 312 2
-
-digest-found : answers toy map1 (PowerUp ∷ Write 0 1 ∷ []) (off forged) ≡ DigestFailed 3 ∷ NotReady ∷ []
-unfolding everything forged
-digest-found = refl
-
--- what a power-up that fails leaves
-copy-zeroed : after toy map1 (PowerUp ∷ []) (off forged) .lent .copy ≡ replicate 448 0
-unfolding everything forged
-copy-zeroed = refl
+refused-whole : machineAfter toy map1 (Write 0x248 1) wrote ≡ wrote
+refused-whole = refusals toy map1 .commands wrote (Write 0x248 1) tt (unfold everything wrote in (λ e. omega arith))

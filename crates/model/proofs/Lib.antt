@@ -15,4 +15,6 @@ pub mod Theorems
 pub mod Everything
 pub mod LifeCyclePlace
 pub mod Cases
+pub mod ToyChip
 pub mod Examples
+pub mod Runs

@@ -34,7 +34,7 @@ demand3 prims C map F = record {
     write-taken prims C map F m r l₀ l₁ ready a value v al,
     λ l₂ lasts spared. reads-back prims C map F m r l₀ l₁ ready a value v al l₂ spared lasts,
   );
-  chips = λ m n r r′ e k h l g. two-chips prims map F m n r r′ k h l g;
+  chips = two-chips prims map F;
   strokes = never-four prims map F;
 }
 

@@ -41,9 +41,9 @@ module _ (prims : Primitives) (map : Map) where
         (b : ℕ) → b < limit map → firstWord (partitionAt map b) b ≡ firstWord (partitionAt map a) a
         → (inDigest (partitionAt map b) b ≡ false → readLocked (m₂ .session) (numberAt map b) ≡ false)
         → answerTo prims map (Read b) m₂ ≡ Done (usedValue map a value))
-    -- two chips that differ only in data words of secret partitions with the same nonzero stored digests: where their verdicts and token
-    -- comparisons agree, every answer is equal and they still differ only there
-    pub chips : (m n : Machine) → Right map m → Right map n → m .session ≡ n .session → m .lent .constants ≡ n .lent .constants
+    -- two chips whose fuses differ only in data words of secret partitions with the same nonzero stored digests, whatever copy and record each has
+    -- before the power-up: where their verdicts and token comparisons agree, every answer is equal and they still differ only there
+    pub chips : (m n : Machine) → Right map m → Right map n → m .lent .constants ≡ n .lent .constants
         → Alike map (m .lent .cells) (n .lent .cells) (m .lent .cells) (n .lent .cells)
         → (l : List Command) → Matched prims map (PowerUp ∷ l) m n
         → (answers prims map (PowerUp ∷ l) m ≡ answers prims map (PowerUp ∷ l) n)

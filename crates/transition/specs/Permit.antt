@@ -21,7 +21,6 @@ use Rattle.model.specs.declared.Outcome.{Outcome}
 use Rattle.model.specs.Session.{sensedLocked, inPhase}
 use Rattle.model.specs.Lent.{rawToken}
 use Rattle.model.specs.Commands.{tokenKind, tokenSame}
-use Rattle.chip.specs.Chip.{primitives}
 use Rattle.transition.specs.declared.Permit.{Permit}
 use Rattle.transition.specs.declared.Permit.the-variants.{Granted, Refused}
 

@@ -25,7 +25,7 @@ ghost use Rattle.life_cycle.specs.Transitions.{transition};
 ghost use Rattle.model.specs.declared.Command.{Command};
 ghost use Rattle.model.specs.Session.{inPhase};
 ghost use Rattle.model.specs.Commands.{tokenKind, tokenOffset, counterAt, stateAt};
-ghost use Rattle.chip.specs.Chip.{primitives, machineOf, resultOf, resultFor};
+ghost use Rattle.chip.specs.Chip.{machineOf, resultOf, resultFor};
 ghost use Rattle.transition.specs.Permit.{comparedAs, lockedPermit, permitOf, inert, dead, movedAs};
 
 // Where the counter words and the state words start, and the RAW_UNLOCK token among the constants.

@@ -2,7 +2,6 @@
 use mathlib.Core.Path.{sym, ap, _∙_}
 use borrow.Author.Tests.{le-leb, lt-leb}
 use Rattle.basics.proofs.Choice.{if-true, if-false}
-use Rattle.partitions.specs.Map1.{map1}
 use Rattle.partitions.specs.Map.{inDigest}
 use Rattle.model.specs.Commands.{unscrambled}
 use Rattle.chip.specs.Chip.{primitives}

@@ -11,7 +11,6 @@ use Rattle.words.specs.Words.{wordsOf}
 use Rattle.words.proofs.Words.{words-take, length-words}
 use Rattle.partitions.specs.declared.Partition.{Partition}
 use Rattle.partitions.specs.Map.{wordCount}
-use Rattle.partitions.specs.Map1.{map1}
 use Rattle.model.specs.declared.Answer.the-variants.{Done}
 use Rattle.model.specs.Lent.{Machine}
 use Rattle.model.specs.Acts.{stay, say, program}

@@ -8,7 +8,6 @@ use Rattle.model.specs.Lent.{Lent}
 use Rattle.model.specs.declared.Reason.the-variants as reason
 use Rattle.model.specs.declared.Answer.the-variants.{LifeCycleFailed}
 use Rattle.model.specs.PowerUp.{Waking, lifeCycleIn, lifeCycleWaking}
-use Rattle.chip.specs.Chip.{primitives}
 use Rattle.power_up.specs.Waking.{lentOf, wokenResult, deadOutcome}
 use Rattle.power_up.proofs.Waking.{life-cycle-slices, woken-as, dead-result, invalid, scrapped, usable}
 use Rattle.power_up.proofs.live.Statement.{statement}

@@ -10,7 +10,7 @@ use Rattle.model.specs.declared.Command.the-variants.{Transition}
 use Rattle.model.specs.Lent.{Machine}
 use Rattle.model.specs.Commands.{counterAt}
 use Rattle.chip.specs.declared.Judged.the-variants.{Accepted}
-use Rattle.chip.specs.Chip.{primitives, machineOf}
+use Rattle.chip.specs.Chip.{machineOf}
 use Rattle.chip.proofs.Acting.{admission, refused}
 use Rattle.transition.proofs.Moving.{bad-record, Known, unknown-target, strokes-used, Spendable, stroke-refused, not-permitted, moved}
 use borrow.Author.Needs.{needs}
