@@ -4,6 +4,7 @@ use mathlib.Core.Bool.{true, false, not, _&&_}
 use mathlib.Core.List.{List, [], _∷_}
 use mathlib.Core.Option.{Option, none, some}
 use Prim.Native.Nat.{ℕ, zero, suc, _+_, _-_, _≤_, _<_}
+use native.Mathlib.Numerals.{add-one}
 use native.Mathlib.Omega.{arith}
 use lib.Dec.{eqb}
 use borrow.Author.Tests.{eqb-true, eqb-false, eq-eqb, ne-eqb, not-false}
@@ -50,16 +51,6 @@ module _ (encoding : ℕ → List ℕ) (ws : List ℕ) where
   unfolding encodedBy
   encoded-next i n e = if-false _ _ e
 
-  -- the same as a loop meets it, which has come to i of n numbers
-  pub searched-here : (i n : ℕ) → i < n → sameWords ws (encoding i) ≡ true → encodedBy encoding ws i (n - i) ≡ some i
-  searched-here i n h e = let q : n - i ≡ suc (n - suc i) = omega arith in rw q (encoded-here i (n - suc i) e)
-
-  pub searched-next : (i n : ℕ) → i < n → sameWords ws (encoding i) ≡ false → encodedBy encoding ws i (n - i) ≡ encodedBy encoding ws (suc i) (n - suc i)
-  searched-next i n h e = let q : n - i ≡ suc (n - suc i) = omega arith in rw q (encoded-next i (n - suc i) e)
-
-  pub searched-end : (i n : ℕ) → n ≤ i → encodedBy encoding ws i (n - i) ≡ none
-  searched-end i n h = let q : n - i ≡ 0 = omega arith in rw q (encoded-none i)
-
   -- what is found: its encoding is the words
   pub encoded-found : (i n m : ℕ) → encodedBy encoding ws i n ≡ some m → (ws ≡ encoding m) × (m < i + n)
   encoded-found i zero m e = absurd (let q : none ≡ some m = sym (encoded-none i) ∙ e in let z : _≡_ {A = ℕ} 0 1 = cc in omega arith)
@@ -92,22 +83,44 @@ module _ (encoding : ℕ → List ℕ) (ws : List ℕ) where
           let l : suc i ≤ m = omega (arith, eqb-false i m t) in
           encoded-next i n (unequal-not-same ws (encoding i) (h i l)) ∙ rest l (omega arith) e h
 
+-- as a loop searches: none of the first i of n numbers has the words as its encoding
+pub record Searched (encoding : ℕ → List ℕ) (ws : List ℕ) (n i : ℕ) : Type 0 where
+  pub within : i ≤ n
+  pub left : encodedBy encoding ws 0 n ≡ encodedBy encoding ws i (n - i)
+
+module _ {encoding : ℕ → List ℕ} {ws : List ℕ} {n : ℕ} where
+  pub searched-none : Searched encoding ws n 0
+  searched-none = record { within = omega arith; left = let q : n - 0 ≡ n = omega arith in rw q }
+
+  pub searched-here : {i : ℕ} → Searched encoding ws n i → i < n → sameWords ws (encoding i) ≡ true → encodedBy encoding ws 0 n ≡ some i
+  searched-here {i} s h e =
+      let q : n - i ≡ suc (n - suc i) = omega arith in
+      s .left ∙ rw q (encoded-here encoding ws i (n - suc i) e)
+
+  pub searched-next : {i : ℕ} → Searched encoding ws n i → i < n → sameWords ws (encoding i) ≡ false → Searched encoding ws n (i + 1)
+  searched-next {i} s h e =
+      let q : n - i ≡ suc (n - suc i) = omega arith in
+      record { within = omega arith; left = s .left ∙ rw (q, add-one i) (encoded-next encoding ws i (n - suc i) e) }
+
+  pub searched-end : {i : ℕ} → Searched encoding ws n i → n ≤ i → encodedBy encoding ws 0 n ≡ none
+  searched-end {i} s h = let q : n - i ≡ 0 = omega arith in s .left ∙ rw q (encoded-none encoding ws i)
+
 -- ---- the life cycle
 
 -- the test for a blank count with another state than RAW
-raw-only : (n s : ℕ) → (eqb n 0 && not (eqb s 0)) ≡ false → n ≡ 0 → s ≡ 0
-raw-only n s t z = eqb-true s 0 (not-false _ (rw (eq-eqb n 0 z) at t))
+blank-raw : (n s : ℕ) → (eqb n 0 && not (eqb s 0)) ≡ false → n ≡ 0 → s ≡ 0
+blank-raw n s t z = eqb-true s 0 (not-false _ (rw (eq-eqb n 0 z) at t))
 
-only-raw : (n s : ℕ) → (n ≡ 0 → s ≡ 0) → (eqb n 0 && not (eqb s 0)) ≡ false
-only-raw n s h = by-cases (eqb n 0) (λ t. rw (t, eq-eqb s 0 (h (eqb-true n 0 t)))) (λ t. rw t)
+blank-raw-test : (n s : ℕ) → (n ≡ 0 → s ≡ 0) → (eqb n 0 && not (eqb s 0)) ≡ false
+blank-raw-test n s h = by-cases (eqb n 0) (λ t. rw (t, eq-eqb s 0 (h (eqb-true n 0 t)))) (λ t. rw t)
 
-pub count-alone : (s n : ℕ) → (eqb n 0 && not (eqb s 0)) ≡ true → lifeCycleOf (some s) (some n) ≡ Invalid
+pub blank-invalid : (s n : ℕ) → (eqb n 0 && not (eqb s 0)) ≡ true → lifeCycleOf (some s) (some n) ≡ Invalid
 unfolding lifeCycleOf
-count-alone s n t = if-true _ _ t
+blank-invalid s n t = if-true _ _ t
 
-pub both-found : (s n : ℕ) → (eqb n 0 && not (eqb s 0)) ≡ false → lifeCycleOf (some s) (some n) ≡ Valid s n
+pub both-valid : (s n : ℕ) → (eqb n 0 && not (eqb s 0)) ≡ false → lifeCycleOf (some s) (some n) ≡ Valid s n
 unfolding lifeCycleOf
-both-found s n t = if-false _ _ t
+both-valid s n t = if-false _ _ t
 
 pub no-state : (count : Option ℕ) → lifeCycleOf none count ≡ Invalid
 unfolding lifeCycleOf
@@ -132,7 +145,7 @@ valid-parts (some s′) (some n′) s n e = by-cases (eqb n′ 0 && not (eqb s�
         let q : Valid s′ n′ ≡ Valid s n = sym (if-false _ _ t) ∙ e in
         let a : s′ ≡ s = cc in
         let b : n′ ≡ n = cc in
-        (ap some a, ap some b, rw (a, b) at (raw-only n′ s′ t))
+        (ap some a, ap some b, rw (a, b) at (blank-raw n′ s′ t))
 
 -- what a valid decoding says
 pub decoded-says : (constants counter state : List ℕ) (s n : ℕ) → decoded constants counter state ≡ Valid s n
@@ -163,7 +176,7 @@ module _ (constants : List ℕ) (words : Words constants) (valid : validConstant
   pub decoded-valid : (s n : ℕ) → s ≤ 20 → n ≤ 24 → (n ≡ 0 → s ≡ 0)
       → decoded constants (counterWords constants n) (stateWords constants s) ≡ Valid s n
   unfolding lifeCycleOf
-  decoded-valid s n a b h = encoded-decoded s n a b ∙ if-false _ _ (only-raw n s h)
+  decoded-valid s n a b h = encoded-decoded s n a b ∙ if-false _ _ (blank-raw-test n s h)
 
   -- no stroke is spent, and the state isn't RAW
   pub decoded-invalid : (s : ℕ) → s ≤ 20 → (s ≡ 0 → ⊥) → decoded constants (counterWords constants 0) (stateWords constants s) ≡ Invalid

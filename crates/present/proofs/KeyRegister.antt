@@ -9,11 +9,10 @@ use lib.Bits.{bitXor, xor-lt, xor-block}
 use lib.Dec.{lit<}
 use lib.ListN.{getD}
 use lib.Pow.{pow-pos, shl-lt, shr-lt, shr-shr, high, low, mod-pow-add}
-use Rattle.basics.specs.Range.{listed}
 use Rattle.basics.specs.Digits.{digit}
 use Rattle.basics.proofs.Range.{listed-at}
 use Rattle.basics.proofs.Digits.{digit-lt}
-use Rattle.present.specs.Present.{sBox, roundKey, rotateLeft61, substituteTop, keyStep, keyAfter}
+use Rattle.present.specs.Present.{sBox, roundKey, rotateLeft61, substituteTop, keyStep, keyAfter, roundKeys}
 use Rattle.present.proofs.Boxes.{sBox-lt}
 
 -- the top two groups of a number of n + 2 groups through the S-box
@@ -41,7 +40,8 @@ unfolding roundKey
 roundKey-lt key i l h = shr-lt 64 64 (keyAfter-lt key i l h)
 
 -- an entry of the list of round keys
-pub key-at : (keys : List ℕ) (key i : ℕ) → keys ≡ listed (λ j. roundKey (keyAfter key j)) 0 32 → i < 32 → getD keys i 0 ≡ roundKey (keyAfter key i)
+pub key-at : (keys : List ℕ) (key i : ℕ) → keys ≡ roundKeys key → i < 32 → getD keys i 0 ≡ roundKey (keyAfter key i)
+unfolding roundKeys
 key-at keys key i e h = ap (λ (ks : List ℕ). getD ks i 0) e ∙ listed-at (λ j. roundKey (keyAfter key j)) 0 32 i h
 
 -- ---- on the halves

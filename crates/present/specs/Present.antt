@@ -6,7 +6,7 @@ use lib.Bits.{bitXor}
 use lib.Dec.{eqb}
 use lib.ListN.{getD}
 use Rattle.basics.specs.Choice.{if_then_else_}
-use Rattle.basics.specs.Range.{sum}
+use Rattle.basics.specs.Range.{listed, sum}
 use Rattle.basics.specs.Digits.{digit, number, bit}
 
 -- "S-box: C 5 6 B 9 0 A D 3 E F 8 4 7 1 2."
@@ -46,6 +46,10 @@ keyStep round key = bitXor (substituteTop (rotateLeft61 key)) (round * 2 ^ 62)
 unfoldable pub keyAfter : ℕ → ℕ → ℕ
 keyAfter key zero = key
 keyAfter key (suc i) = keyStep (suc i) (keyAfter key i)
+
+-- the 32 round keys
+unfoldable pub roundKeys : ℕ → List ℕ
+roundKeys key = listed (λ i. roundKey (keyAfter key i)) 0 32
 
 -- the state after i rounds
 unfoldable pub stateAfter : ℕ → ℕ → ℕ → ℕ

@@ -2,9 +2,8 @@
 // Bits that do not meet are put together by a sum.
 ghost use mathlib.Core.Path.{_≡_};
 ghost use Prim.Native.Nat.{ℕ, _+_, _*_, _/_, _%_, _^_, _<_};
-ghost use Rattle.basics.specs.Range.{listed};
 ghost use Rattle.basics.specs.Digits.{digit, bit};
-ghost use Rattle.present.specs.Present.{sBox, substitute, place, permute, permuteBack, roundKey, keyStep, keyAfter, encryptBlock, decryptBlock};
+ghost use Rattle.present.specs.Present.{sBox, substitute, place, permute, permuteBack, keyStep, roundKeys, encryptBlock, decryptBlock};
 
 const ROUNDS: usize = 31;
 
@@ -117,7 +116,7 @@ fn key_step(round: u64, high: u64, low: u64) -> Key
 
 // The 32 round keys.
 fn round_keys(high: u64, low: u64) -> [u64; 32]
-    ensures { λ r. ⌜ r ≡ listed (λ i. roundKey (keyAfter (high * 2 ^ 64 + low) i)) 0 32 ⌝ }
+    ensures { λ r. ⌜ r ≡ roundKeys (high * 2 ^ 64 + low) ⌝ }
 {
     let mut keys = [0u64; 32];
     let mut key = Key { high, low };
@@ -133,7 +132,7 @@ fn round_keys(high: u64, low: u64) -> [u64; 32]
 
 // The rounds and the last key addition, under the round keys of any key.
 fn encrypt_with(keys: &[u64; 32], block: u64) -> u64
-    ensures { λ r. ⌜ ((key : ℕ) → now (keys .entry) ≡ listed (λ i. roundKey (keyAfter key i)) 0 32 → r ≡ encryptBlock key block) ⌝ }
+    ensures { λ r. ⌜ ((key : ℕ) → now (keys .entry) ≡ roundKeys key → r ≡ encryptBlock key block) ⌝ }
 {
     let mut state = block;
     let mut i: usize = 0;
@@ -146,7 +145,7 @@ fn encrypt_with(keys: &[u64; 32], block: u64) -> u64
 
 // The same way back.
 fn decrypt_with(keys: &[u64; 32], block: u64) -> u64
-    ensures { λ r. ⌜ ((key : ℕ) → now (keys .entry) ≡ listed (λ i. roundKey (keyAfter key i)) 0 32 → r ≡ decryptBlock key block) ⌝ }
+    ensures { λ r. ⌜ ((key : ℕ) → now (keys .entry) ≡ roundKeys key → r ≡ decryptBlock key block) ⌝ }
 {
     let mut state = block ^ keys[ROUNDS];
     let mut i = ROUNDS;

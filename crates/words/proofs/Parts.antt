@@ -1,8 +1,7 @@
 -- Laws of parts of an array, and of what storing a value there leaves. The idea: a part and `sets` go word by word, so each law is an induction on the words.
-use mathlib.Core.Path.{_≡_, refl, sym, ap, ap₂, _∙_}
+use mathlib.Core.Path.{_≡_, refl, sym, _∙_}
 use mathlib.Core.List.{List, [], _∷_}
 use Prim.Native.Nat.{ℕ, zero, suc, _+_, _*_, _-_, _^_, _≤_, _<_}
-use native.Mathlib.Nat.{add-suc}
 use native.Mathlib.Omega.{arith}
 use lib.ListN.{length, getD, set, take, drop, length-set, length-drop, drop-of-length-le, List·getD-eq-default}
 use lib.Seq.{sets, getD-drop, getD-set-same, getD-set-other, set-out, drop-cons, take-nil, take-all}
@@ -10,7 +9,7 @@ use lib.Dec.{ltb}
 use borrow.Author.Tests.{ltb-true, ltb-false}
 use Rattle.basics.specs.Range.{listed}
 use Rattle.basics.proofs.Choice.{by-cases}
-use Rattle.basics.proofs.Range.{length-listed}
+use Rattle.basics.proofs.Range.{length-listed, listed-shift}
 use Rattle.words.specs.Words.{numberOf, partAt}
 use Rattle.words.proofs.Words.{Words, number-lt}
 
@@ -48,10 +47,8 @@ rest-slice c at = take-all (length c - at) (drop at c) (simp length-drop (omega 
 
 -- a part counted from a later word
 pub part-drop : (c : List ℕ) (from at n : ℕ) → partAt (drop from c) at n ≡ partAt c (from + at) n
-unfolding partAt listed
-part-drop c from at zero = refl
-part-drop c from at (suc n) =
-    ap₂ (λ (x : ℕ) (l : List ℕ). x ∷ l) (getD-drop from c at 0) (part-drop c from (suc at) n ∙ ap (λ (i : ℕ). listed (λ j. getD c j 0) i n) (add-suc from at))
+unfolding partAt
+part-drop c from at n = sym (listed-shift (λ j. getD c j 0) (λ j. getD (drop from c) j 0) at from n (λ j. sym (getD-drop from c j 0)))
 
 pub zeros-past : (c : List ℕ) (at n : ℕ) → length c ≤ at → numberOf (partAt c at n) ≡ 0
 unfolding partAt listed numberOf

@@ -1,27 +1,25 @@
 -- The invariant: no state below s has these words, so the search from s on finds what the whole search does.
-use mathlib.Core.Path.{_≡_, refl, sym, ap, _∙_}
+use mathlib.Core.Path.{_≡_, sym, ap, _∙_}
 use mathlib.Core.Bool.{true}
 use mathlib.Core.Option.{Option, some}
-use Prim.Native.Nat.{ℕ, _≤_, _-_}
+use Prim.Native.Nat.{ℕ, _-_}
 use native.Mathlib.Omega.{arith}
-use native.Mathlib.Numerals.{add-one}
 use borrow.Author.Needs.{needs}
 use lib.ListN.{length}
 use Rattle.life_cycle.specs.Words.{stateWords, sameWords, encodedBy, lifeCycleOf}
 use Rattle.life_cycle.proofs.Encoding.{state-length}
-use Rattle.life_cycle.proofs.Decoding.{searched-here, searched-next, searched-end, count-alone, both-found, no-state}
+use Rattle.life_cycle.proofs.Decoding.{Searched, searched-none, searched-here, searched-next, searched-end, blank-invalid, both-valid, no-state}
 use Rattle.life_cycle.proofs.decode_state.Statement.{statement}
 use Rattle.life_cycle.proofs.decode_state.Tie as tie
 
 abbrev Inv-loop : tie.InvT-loop
-Inv-loop constants state count s₀ s =
-    (s ≤ 21) × (encodedBy (stateWords constants) state 0 21 ≡ encodedBy (stateWords constants) state s (21 - s))
+Inv-loop constants state count s₀ s = Searched (stateWords constants) state 21 s
 
 abbrev μ-loop : tie.MeasureT-loop
 μ-loop constants state count s₀ s = 21 - s
 
 loop-holds : tie.Need-loop-holds Inv-loop μ-loop
-loop-holds c = (omega arith, refl)
+loop-holds c = searched-none
 
 slice-aggregate-same-words : tie.Need-slice-aggregate-same-words Inv-loop μ-loop
 slice-aggregate-same-words c = sym (ap length (c .before .state-words .ensures) ∙ state-length _ _)
@@ -38,31 +36,28 @@ module _ (t : tie.After-same-words Inv-loop μ-loop) where
   same = t .same-words .ensures ∙ ap (sameWords (start .args .state .now)) (t .before .before .state-words .ensures)
 
   found : t .same-words .result ≡ true → encodedBy (stateWords (start .args .constants .now)) (start .args .state .now) 0 21 ≡ some (loop .loop .s)
-  found e = loop .loop .inv .1 ∙ searched-here _ _ (loop .loop .s) 21 (omega arith) (sym same ∙ e)
+  found e = searched-here (loop .loop .inv) (omega arith) (sym same ∙ e)
 
 returns : tie.Need-returns Inv-loop μ-loop
 returns c =
     let t = c .before .before in
     let n = start t .args .count in
-    sym (ap (λ (o : Option ℕ). lifeCycleOf o (some n)) (found t (c .before .if1 .taken)) ∙ count-alone (loop t .loop .s) n (c .if2 .taken))
+    sym (ap (λ (o : Option ℕ). lifeCycleOf o (some n)) (found t (c .before .if1 .taken)) ∙ blank-invalid (loop t .loop .s) n (c .if2 .taken))
 
 returns-2 : tie.Need-returns-2 Inv-loop μ-loop
 returns-2 c =
     let t = c .before .before in
     let n = start t .args .count in
-    sym (ap (λ (o : Option ℕ). lifeCycleOf o (some n)) (found t (c .before .if1 .taken)) ∙ both-found (loop t .loop .s) n (c .if2 .left))
+    sym (ap (λ (o : Option ℕ). lifeCycleOf o (some n)) (found t (c .before .if1 .taken)) ∙ both-valid (loop t .loop .s) n (c .if2 .left))
 
 loop-again : tie.Need-loop-again Inv-loop μ-loop
-loop-again c =
-    let t = c .before in
-    let s = loop t .loop .s in
-    (omega arith, loop t .loop .inv .1 ∙ rw (add-one s) (searched-next _ _ s 21 (omega arith) (sym (same t) ∙ c .if1 .left)))
+loop-again c = searched-next (loop (c .before) .loop .inv) (omega arith) (sym (same (c .before)) ∙ c .if1 .left)
 
 returns-3 : tie.Need-returns-3 Inv-loop μ-loop
 returns-3 c =
     let l = c .before in
     let n = l .before .before .before .args .count in
-    sym (ap (λ (o : Option ℕ). lifeCycleOf o (some n)) (l .loop .inv .1 ∙ searched-end _ _ (l .loop .s) 21 (c .loop-test .left)) ∙ no-state _)
+    sym (ap (λ (o : Option ℕ). lifeCycleOf o (some n)) (searched-end (l .loop .inv) (c .loop-test .left)) ∙ no-state _)
 
 pub decode-state-spec : {M : Type 1} → statement M
 decode-state-spec =

@@ -6,8 +6,8 @@ use native.Mathlib.Omega.{arith}
 use lib.Bits.{bitXor}
 use lib.Dec.{lit≤, lit<}
 use Rattle.basics.specs.Choice.{if_then_else_}
-use Rattle.basics.specs.Range.{allBelow, listed, sum}
-use Rattle.present.specs.Present.{sBox, sBoxInverse, substitute, roundKey, keyAfter, blockBefore, decryptBlock}
+use Rattle.basics.specs.Range.{allBelow, sum}
+use Rattle.present.specs.Present.{sBox, sBoxInverse, substitute, roundKeys, blockBefore, decryptBlock}
 use Rattle.present.proofs.Boxes.{substitute-held}
 use Rattle.present.proofs.KeyRegister.{key-at}
 use Rattle.present.proofs.decrypt_with.Statement.{statement}
@@ -15,7 +15,7 @@ use Rattle.present.proofs.decrypt_with.Tie as tie
 
 abbrev Inv-loop : tie.InvT-loop
 Inv-loop keys block state₀ i₀ state i =
-    (i ≤ 31) × ((key : ℕ) → keys ≡ listed (λ j. roundKey (keyAfter key j)) 0 32 → blockBefore key state i ≡ decryptBlock key block)
+    (i ≤ 31) × ((key : ℕ) → keys ≡ roundKeys key → blockBefore key state i ≡ decryptBlock key block)
 
 abbrev μ-loop : tie.MeasureT-loop
 μ-loop keys block state₀ i₀ state i = i

@@ -6,8 +6,8 @@ use native.Mathlib.Numerals.{add-one}
 use native.Mathlib.Omega.{arith}
 use lib.Bits.{bitXor}
 use lib.Dec.{lit≤, lit<}
-use Rattle.basics.specs.Range.{allBelow, listed}
-use Rattle.present.specs.Present.{sBox, substitute, permute, roundKey, keyAfter, stateAfter, encryptBlock}
+use Rattle.basics.specs.Range.{allBelow}
+use Rattle.present.specs.Present.{sBox, substitute, permute, roundKeys, stateAfter, encryptBlock}
 use Rattle.present.proofs.Boxes.{substitute-held}
 use Rattle.present.proofs.KeyRegister.{key-at}
 use Rattle.present.proofs.encrypt_with.Statement.{statement}
@@ -15,7 +15,7 @@ use Rattle.present.proofs.encrypt_with.Tie as tie
 
 abbrev Inv-loop : tie.InvT-loop
 Inv-loop keys block state₀ i₀ state i =
-    (i ≤ 31) × ((key : ℕ) → keys ≡ listed (λ j. roundKey (keyAfter key j)) 0 32 → state ≡ stateAfter key block i)
+    (i ≤ 31) × ((key : ℕ) → keys ≡ roundKeys key → state ≡ stateAfter key block i)
 
 abbrev μ-loop : tie.MeasureT-loop
 μ-loop keys block state₀ i₀ state i = 31 - i

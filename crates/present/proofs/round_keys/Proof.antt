@@ -5,7 +5,7 @@ use native.Mathlib.Numerals.{add-one}
 use native.Mathlib.Omega.{arith}
 use lib.Dec.{lit≤, lit<}
 use Rattle.basics.proofs.Range.{Follows, follows-none, follows-more, follows-all}
-use Rattle.present.specs.Present.{roundKey, keyStep, keyAfter}
+use Rattle.present.specs.Present.{roundKey, keyStep, keyAfter, roundKeys}
 use Rattle.present.proofs.KeyRegister.{roundKey-halves}
 use Rattle.present.proofs.round_keys.Statement.{statement}
 use Rattle.present.proofs.round_keys.Tie as tie
@@ -42,6 +42,7 @@ loop-again c =
     )
 
 returns : tie.Need-returns Inv-loop μ-loop
+unfolding roundKeys
 returns c =
     let g = c .before .before .args in
     let v = c .before .loop in
