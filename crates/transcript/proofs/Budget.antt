@@ -26,7 +26,8 @@ module _ (s : List ℕ) where
   same-more a b place m known End e = rw (e, linesFrom)
   same-more a b place m known (Refused w at) e = rw (e, linesFrom)
 
-  pub same-budget : (a b place : ℕ) (m : Machine) → place ≤ length s → length s < place + a → length s < place + b → linesFrom a s place m ≡ linesFrom b s place m
+  pub same-budget : (a b place : ℕ) (m : Machine) → place ≤ length s → length s < place + a → length s < place + b
+      → linesFrom a s place m ≡ linesFrom b s place m
   same-budget zero b place m h ha hb = absurd (omega arith)
   same-budget (suc a) zero place m h ha hb = absurd (omega arith)
   same-budget (suc a) (suc b) place m h ha hb =

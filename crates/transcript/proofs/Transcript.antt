@@ -43,14 +43,16 @@ module _ (s : List ℕ) where
   turns-print (suc n) place m count = one-more n place m count (λ p k. turns-print n p k (count + 1)) (nextAt s place) refl
 
 -- the lines of repeated turns, with the end line, are the transcript
-pub turns-are-transcript : (script image constants : List ℕ) → turnsFrom (length script + 1) script 0 (chipOf image constants) 0 ≡ transcript script image constants
+pub turns-are-transcript : (script image constants : List ℕ)
+    → turnsFrom (length script + 1) script 0 (chipOf image constants) 0 ≡ transcript script image constants
 unfolding transcript linesOf
 turns-are-transcript script image constants =
     let ls = linesFrom (length script + 1) script 0 (chipOf image constants) in
     turns-print script (length script + 1) 0 (chipOf image constants) 0 ∙ ap (λ (n : ℕ). printed ls ++ endLine n) (omega arith)
 
 -- and so with any larger budget
-pub rehearsal : (n : ℕ) (script image constants : List ℕ) → length script < n → turnsFrom n script 0 (chipOf image constants) 0 ≡ transcript script image constants
+pub rehearsal : (n : ℕ) (script image constants : List ℕ) → length script < n
+    → turnsFrom n script 0 (chipOf image constants) 0 ≡ transcript script image constants
 rehearsal n script image constants h =
     let m = chipOf image constants in
     turns-print script n 0 m 0

@@ -2,7 +2,6 @@
 use mathlib.Core.Path.{_≡_, sym, ap, _∙_}
 use Prim.Native.Nat.{ℕ}
 use borrow.Author.Needs.{needs}
-use Rattle.basics.specs.Range.{listed}
 use Rattle.partitions.specs.Map1.{map1}
 use Rattle.model.specs.Lent.{Lent}
 use Rattle.model.specs.declared.Reason.the-variants as reason
@@ -76,8 +75,7 @@ returns c =
     let d = c .before .before in
     let g = d .before .before in
     let t = g .before .before in
-    let zeros = d .dead .ensures .0 ∙ ap (listed (λ j. 0) 0) (start t .pre .1) in
-    dead-result _ _ (lent t) zeros (d .dead .ensures .1) ∙ decided t (invalid (lent t) (sym (g .enum-told .given .1) ∙ life t))
+    dead-result _ (lent t) (invalid (lent t) (sym (g .enum-told .given .1) ∙ life t)) (start t .pre .1) (d .dead .ensures .0) (d .dead .ensures .1)
 
 same-length-2 : tie.Need-same-length-2
 same-length-2 c = search needs
@@ -88,9 +86,9 @@ returns-2 c =
     let v = d .before .before in
     let s = v .before .before .before in
     let t = s .before .before in
-    let zeros = d .dead2 .ensures .0 ∙ ap (listed (λ j. 0) 0) (start t .pre .1) in
     let outcome = d .dead2 .ensures .1 ∙ ap (λ (x : ℕ). deadOutcome reason.LifeCycleFailed (LifeCycleFailed x)) (v .value-of .ensures) in
-    dead-result _ _ (lent t) zeros outcome ∙ decided t (scrapped (lent t) _ _ (sym (s .state .given .1) ∙ life t) (v .before .if1 .taken))
+    let scrap = scrapped (lent t) _ _ (sym (s .state .given .1) ∙ life t) (v .before .if1 .taken) in
+    dead-result _ (lent t) scrap (start t .pre .1) (d .dead2 .ensures .0) outcome
 
 same-length-3 : tie.Need-same-length-3
 same-length-3 c = search needs

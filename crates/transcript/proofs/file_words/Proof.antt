@@ -77,7 +77,8 @@ loop-again c =
     let t = c .before .before .before .before in
     let b = start t .args .bytes .now in
     let l : t .loop .i < length (pairs b) = omega (arith, pairs-length b) in
-    (omega arith, filled-more (pairs b) (start t .args .words .now) (t .loop .i) (within t) (fits t) (t .loop .words) (t .loop .inv .1) (c .word .result) l (c .word .ensures ∙ sym (pair-at b (t .loop .i) l)))
+    let word = c .word .ensures ∙ sym (pair-at b (t .loop .i) l) in
+    (omega arith, filled-more (pairs b) _ (t .loop .i) (within t) (fits t) (t .loop .words) (t .loop .inv .1) _ l word)
 
 same-length : tie.Need-same-length Inv-loop μ-loop
 same-length c = same (c .before)
@@ -88,7 +89,8 @@ returns-3 c =
     let b = start t .args .bytes .now in
     let w = start t .args .words .now in
     let e = lent-fits (length w) b (eq-eqb _ _ (t .before .before .if1 .left)) (t .before .if2 .left) in
-    rw e (sym (pairs-length b), filled-whole (pairs b) w (t .loop .i) (within t) (fits t) (t .loop .words) (t .loop .inv .1) (length b / 2) (sym (pairs-length b)) (c .loop-test .left))
+    let n = sym (pairs-length b) in
+    rw e (n, filled-whole (pairs b) w (t .loop .i) (within t) (fits t) (t .loop .words) (t .loop .inv .1) (length b / 2) n (c .loop-test .left))
 
 pub file-words-spec : {M : Type 1} → statement M
 file-words-spec =
