@@ -13,6 +13,10 @@ use Rattle.power_up.proofs.Waking.{life-cycle-slices, woken-as, dead-re
 use Rattle.power_up.proofs.live.Statement.{statement}
 use Rattle.power_up.proofs.live.Tie as tie
 
+-- the life cycle decides
+abbrev byLife : Lent → Waking
+byLife l = lifeCycleWaking (lifeCycleIn primitives map1 l)
+
 -- what the decoding tells
 module _ (t : tie.After-decode) where
   abbrev start : tie.Start
@@ -24,9 +28,8 @@ module _ (t : tie.After-decode) where
   life : t .decode .result ≡ lifeCycleIn primitives map1 lent
   life = t .decode .ensures ∙ life-cycle-slices lent (start .pre .0)
 
-  decided : {w : Waking} → lifeCycleWaking (lifeCycleIn primitives map1 lent) ≡ w
-      → wokenResult (λ l. w) lent ≡ wokenResult (λ l. lifeCycleWaking (lifeCycleIn primitives map1 l)) lent
-  decided e = sym (woken-as (λ l. lifeCycleWaking (lifeCycleIn primitives map1 l)) lent e)
+  decided : {w : Waking} → byLife lent ≡ w → wokenResult (λ l. w) lent ≡ wokenResult byLife lent
+  decided e = sym (woken-as byLife lent e)
 
 sub-decode : tie.Need-sub-decode
 sub-decode c = search needs
@@ -75,7 +78,7 @@ returns c =
     let d = c .before .before in
     let g = d .before .before in
     let t = g .before .before in
-    dead-result _ (lent t) (invalid (lent t) (sym (g .enum-told .given .1) ∙ life t)) (start t .pre .1) (d .dead .ensures .0) (d .dead .ensures .1)
+    dead-result byLife (lent t) (invalid (lent t) (sym (g .enum-told .given .1) ∙ life t)) (start t .pre .1) (d .dead .ensures .0) (d .dead .ensures .1)
 
 same-length-2 : tie.Need-same-length-2
 same-length-2 c = search needs
@@ -88,7 +91,7 @@ returns-2 c =
     let t = s .before .before in
     let outcome = d .dead2 .ensures .1 ∙ ap (λ (x : ℕ). deadOutcome reason.LifeCycleFailed (LifeCycleFailed x)) (v .value-of .ensures) in
     let scrap = scrapped (lent t) _ _ (sym (s .state .given .1) ∙ life t) (v .before .if1 .taken) in
-    dead-result _ (lent t) scrap (start t .pre .1) (d .dead2 .ensures .0) outcome
+    dead-result byLife (lent t) scrap (start t .pre .1) (d .dead2 .ensures .0) outcome
 
 same-length-3 : tie.Need-same-length-3
 same-length-3 c = search needs

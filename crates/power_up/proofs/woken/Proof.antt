@@ -40,7 +40,7 @@ returns c =
     let d = c .before .before in
     let t = d .before .before .before .before .before in
     let told = sym (d .before .before .before .number .given .1) ∙ t .first-failing .ensures in
-    dead-result _ (lent t) (failed (lent t) _ told) (start t .pre .1) (d .dead .ensures .0) (d .dead .ensures .1)
+    dead-result (waking primitives map1) (lent t) (failed (lent t) _ told) (start t .pre .1) (d .dead .ensures .0) (d .dead .ensures .1)
 
 same-length-2 : tie.Need-same-length-2
 same-length-2 c = search needs
