@@ -81,6 +81,7 @@ fn write_out(out: &[u8], used: usize)
     io::write_all(STDOUT_FILENO, &out[..used]);
 }
 
+// Stores a line.
 fn store(out: &mut [u8], at: usize, line: &[u8; 23])
     requires { ⌜ at + 23 ≤ length (now out) ⌝ }
 {
@@ -103,6 +104,7 @@ fn gather(out: &mut [u8], used: usize, line: &[u8; 23]) -> usize
     23
 }
 
+// More follows.
 fn goes_on(course: Course) -> bool {
     match course {
         Course::Goes => true,
@@ -169,6 +171,7 @@ fn take_turns(
     at
 }
 
+// Writes the end line.
 fn write_end(count: u64) {
     let end = script::end_line(count);
     let bytes = end.bytes;
@@ -176,6 +179,7 @@ fn write_end(count: u64) {
     io::write_all(STDOUT_FILENO, &bytes[..len]);
 }
 
+// Writes the lines of a script and its end line.
 fn rehearse(script: &[u8], cells: &mut [u16], copy: &mut [u16], constants: &[u16]) {
     let mut out = lines_buffer();
     let at = take_turns(script, cells, copy, constants, &mut out);

@@ -1,5 +1,5 @@
 -- How a power-up ends, against what the code finds. The idea: once it is known how it ends, the definitions compute at Map 1.
-use mathlib.Core.Path.{_≡_, refl, sym, ap, ap₂}
+use mathlib.Core.Path.{_≡_, refl, sym, ap, ap₂, _∙_}
 use mathlib.Core.Bool.{false}
 use mathlib.Core.List.{List, [], _∷_}
 use mathlib.Core.Option.{Option, none, some}
@@ -51,13 +51,17 @@ life-cycle-slices l e =
 pub woken-as : (w : Lent → Waking) (l : Lent) {x : Waking} → w l ≡ x → wokenResult w l ≡ wokenResult (λ l. x) l
 woken-as w l e = ap (λ (y : Waking). wokenResult (λ l. y) l) e
 
-pub dead-result : (r : Reason) (a : Answer) (l : Lent) {copy : List ℕ} {o : Outcome} → copy ≡ listed (λ j. 0) 0 448 → o ≡ deadOutcome r a
-    → resultOf (l .cells) copy (l .constants) o ≡ wokenResult (λ l. fails r a) l
+dead-end : (r : Reason) (a : Answer) (l : Lent) → resultOf (l .cells) (listed (λ j. 0) 0 448) (l .constants) (deadOutcome r a) ≡ wokenResult (λ l. fails r a) l
 unfolding wokenCopy wokenSession wokenAnswer digests noLocks limit map1 rightsOf if_then_else_
-dead-result r a l e q = rw (e, q)
+dead-end r a l = refl
+
+pub dead-result : (w : Lent → Waking) (l : Lent) {r : Reason} {a : Answer} {copy : List ℕ} {o : Outcome} → w l ≡ fails r a → length (l .copy) ≡ 448
+    → copy ≡ listed (λ j. 0) 0 (length (l .copy)) → o ≡ deadOutcome r a → resultOf (l .cells) copy (l .constants) o ≡ wokenResult w l
+dead-result w l f n e q = rw (e, n, q) (dead-end _ _ l ∙ sym (woken-as w l f))
 
 pub ready-result : (state count : ℕ) (l : Lent) {copy sensed : List ℕ} {value : ℕ}
-    → copy ≡ listed (copyWord primitives map1 (l .constants) (l .cells)) 0 448 → sensed ≡ digests (λ p. storedDigest p (l .cells)) map1 → value ≡ 256 * count + state
+    → copy ≡ listed (copyWord primitives map1 (l .constants) (l .cells)) 0 448 → sensed ≡ digests (λ p. storedDigest p (l .cells)) map1
+    → value ≡ 256 * count + state
     → resultOf (l .cells) copy (l .constants)
     (record { session = record { phase = Ready; sensed = sensed; locks = false ∷ false ∷ []; state = state; count = count }; answer = answer.Done value })
     ≡ wokenResult (λ l. wakes state count) l

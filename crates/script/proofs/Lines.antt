@@ -6,7 +6,7 @@ use native.Mathlib.Omega.{arith}
 use lib.ListN.{length, set, drop, replicate, length-append, length-replicate, replicate-append-replicate}
 use lib.Seq.{drop-at, set-at, append-snoc}
 use Rattle.script.specs.Lines.{digits, decimal, endLine, endLineOf}
-use Rattle.script.proofs.Digits.{decimal-short, decimal-digits}
+use Rattle.script.proofs.Decimal.{decimal-short, decimal-digits}
 
 pub end-length : (x : ℕ) → length (endLine x) ≡ 5 + length (decimal 20 x)
 unfolding endLine
@@ -30,4 +30,5 @@ end-written n x l e =
     let z : drop n (zeros 21) ≡ zeros (suc (20 - n)) = ap (λ (j : ℕ). drop n (zeros j)) k ∙ zeros-left n (suc (20 - n)) in
     let start : List ℕ = 101 ∷ 110 ∷ 100 ∷ 32 ∷ decimal 20 x in
     let at : length start ≡ 4 + n = omega arith in
-    rw (d, z, m) (set-at start 0 (zeros (20 - n)) 10 (4 + n) at ∙ ap (λ (ys : List ℕ). 101 ∷ 110 ∷ 100 ∷ 32 ∷ ys) (sym (append-snoc (decimal 20 x) 10 (zeros (20 - n)))))
+    let rest = zeros (20 - n) in
+    rw (d, z, m) (set-at start 0 rest 10 (4 + n) at ∙ ap (λ (ys : List ℕ). 101 ∷ 110 ∷ 100 ∷ 32 ∷ ys) (sym (append-snoc (decimal 20 x) 10 rest)))

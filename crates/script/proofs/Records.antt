@@ -70,7 +70,8 @@ unfolding bodyLength
 body-short kind =
     either (eqb kind 1) (omega arith)
     (either (eqb kind 2) (omega arith)
-    (either (eqb kind 3) (omega arith) (either (eqb kind 4) (omega arith) (either (eqb kind 5) (omega arith) (either (eqb kind 6) (omega arith) (omega arith))))))
+    (either (eqb kind 3) (omega arith)
+    (either (eqb kind 4) (omega arith) (either (eqb kind 5) (omega arith) (either (eqb kind 6) (omega arith) (omega arith))))))
 
 -- ---- what led to an answer
 

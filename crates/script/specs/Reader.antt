@@ -6,9 +6,11 @@ use Rattle.script.specs.declared.Reader.{Reader}
 use Rattle.script.specs.declared.Reading.{Reading}
 use Rattle.script.specs.Records.{nextAt, placeAfter}
 
+-- at place 0
 abbrev pub newReader : RefT (List ℕ) → Reader
 newReader script = record { script = script; place = 0 }
 
+-- what stands at its place
 abbrev pub readerNext : Reader → Reading
 readerNext reader = nextAt (now (reader .script)) (reader .place)
 

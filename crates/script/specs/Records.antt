@@ -28,6 +28,7 @@ kindOf PowerUp = 7
 unfoldable pub unknown : ℕ → Bool
 unknown kind = eqb kind 0 || ltb 7 kind
 
+-- 7 has no body, and neither has an unknown kind
 unfoldable pub bodyLength : ℕ → ℕ
 bodyLength kind =
     if eqb kind 1 then 4
@@ -46,7 +47,7 @@ byteAt script at = getD script at 0
 unfoldable pub numberAt : List ℕ → ℕ → ℕ → ℕ
 numberAt script at n = number 256 n (λ i. byteAt script (at + i))
 
--- the command of a known kind whose body stands at `at`; the low half of a token comes first
+-- the command of a known kind (7 where it is none of 1 to 6) whose body stands at `at`; the low half of a token comes first
 unfoldable pub commandAt : List ℕ → ℕ → ℕ → Command
 commandAt script kind at =
     if eqb kind 1 then Read (numberAt script at 4)

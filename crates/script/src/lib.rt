@@ -40,6 +40,7 @@ pub enum Reading {
 }
 
 impl Refusal {
+    // The code of a refusal.
     pub fn code(self) -> u8
         ensures { λ r. ⌜ r ≡ refusalCode self ⌝ }
     {
@@ -81,6 +82,7 @@ fn body_length(kind: u8) -> usize
     }
 }
 
+// Casts whose results are known to be small.
 fn wide(byte: u8) -> u32
     ensures { λ r. ⌜ (r ≡ byte) × (r < 256) ⌝ }
 {
@@ -172,6 +174,7 @@ pub struct Reader<'a> {
 }
 
 impl<'a> Reader<'a> {
+    // A reader at the start of a script.
     pub fn new(script: &'a [u8]) -> Reader<'a>
         ensures { λ r. ⌜ r ≡ newReader (script .entry) ⌝ }
     {

@@ -1,7 +1,7 @@
--- Laws of the number of lines. The idea: it depends on the script alone, and a budget above the script's length serves from every place.
-use Prim.Native.Nat.{ℕ, zero, suc, _+_, _≤_, _<_}
-use mathlib.Core.Path.{_≡_, refl, sym, ap}
-use mathlib.Core.List.{List}
+-- Laws of the number of lines. The idea: it depends on the script alone, whatever the machine answers.
+use Prim.Native.Nat.{ℕ, zero, suc, _+_}
+use mathlib.Core.Path.{_≡_, refl, sym, ap, _∙_}
+use mathlib.Core.List.{List, []}
 use native.Mathlib.Numerals.{add-one}
 use native.Mathlib.Omega.{arith}
 use lib.ListN.{length}
@@ -14,6 +14,7 @@ use Rattle.script.specs.declared.Refusal.{Refusal}
 use Rattle.script.specs.Records.{nextAt}
 use Rattle.script.proofs.Records.{is-read}
 use Rattle.transcript.specs.Transcript.{linesFrom, chipOf, linesOf}
+use Rattle.transcript.proofs.Budget.{same-budget}
 
 unfoldable pub countBy : Reading → (ℕ → ℕ) → ℕ
 countBy (Record command next) rest = suc (rest next)
@@ -38,21 +39,6 @@ module _ (s : List ℕ) where
   lines-count zero place m = refl
   lines-count (suc n) place m = lines-step n place m (lines-count n) (nextAt s place) refl
 
-  same-step : (a b place : ℕ) → ((p : ℕ) → p ≤ length s → place < p → countFrom a s p ≡ countFrom b s p)
-      → (r : Reading) → nextAt s place ≡ r → countFrom (suc a) s place ≡ countFrom (suc b) s place
-  unfolding countFrom countBy
-  same-step a b place known (Record command next) e =
-      let i = is-read s place e in
-      rw e (ap suc (known next (i .within) (i .above)))
-  same-step a b place known End e = rw e
-  same-step a b place known (Refused w at) e = rw e
-
-  same-count : (a b place : ℕ) → place ≤ length s → length s < place + a → length s < place + b → countFrom a s place ≡ countFrom b s place
-  same-count zero b place h ha hb = absurd (omega arith)
-  same-count (suc a) zero place h ha hb = absurd (omega arith)
-  same-count (suc a) (suc b) place h ha hb =
-      same-step a b place (λ p l g. same-count a b p l (omega arith) (omega arith)) (nextAt s place) refl
-
   -- the number of lines from a place on
   abbrev pub linesLeft : ℕ → ℕ
   linesLeft place = countFrom (length s + 1) s place
@@ -62,7 +48,8 @@ module _ (s : List ℕ) where
     unfolding countFrom countBy
     left-record {command} {next} e =
         let i = is-read s place e in
-        rw (add-one, e) (ap suc (same-count (length s) (suc (length s)) next (i .within) (omega arith) (omega arith)))
+        let same = ap length (same-budget s (length s) (suc (length s)) next (chipOf [] []) (i .within) (omega arith) (omega arith)) in
+        rw (add-one, e) (ap suc (sym (lines-count (length s) next _) ∙ same ∙ lines-count (suc (length s)) next _))
 
     pub left-end : nextAt s place ≡ End → linesLeft place ≡ 0
     unfolding countFrom countBy

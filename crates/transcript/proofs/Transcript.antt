@@ -1,6 +1,5 @@
--- Turns one after the other print the transcript. The idea: a turn prints the first line of `linesFrom`; and since a record's next place is
--- above its place and at most the script's length, no budget above the length is used up.
-use Prim.Native.Nat.{ℕ, zero, suc, _+_, _≤_, _<_}
+-- Turns one after the other print the transcript. The idea: a turn prints the first line of `linesFrom`, whatever the budget.
+use Prim.Native.Nat.{ℕ, zero, suc, _+_, _<_}
 use mathlib.Core.Path.{_≡_, refl, sym, ap, _∙_}
 use mathlib.Core.List.{List, [], _++_, append-assoc}
 use native.Mathlib.Omega.{arith}
@@ -12,8 +11,8 @@ use Rattle.script.specs.declared.Reading.{Reading}
 use Rattle.script.specs.declared.Reading.the-variants.{Record, End, Refused}
 use Rattle.script.specs.Records.{kindOf, refusalCode, nextAt}
 use Rattle.script.specs.Lines.{lineOf, endLine}
-use Rattle.script.proofs.Records.{is-read}
-use Rattle.transcript.specs.Transcript.{refusedKind, linesFrom, chipOf, linesOf, printed, transcript}
+use Rattle.transcript.specs.Transcript.{refusedKind, Line, linesFrom, chipOf, linesOf, printed, transcript}
+use Rattle.transcript.proofs.Budget.{same-budget}
 use Rattle.transcript.specs.Turns.{turnBy, turnOf, afterTurn, turnsFrom}
 
 module _ (s : List ℕ) where
@@ -43,35 +42,20 @@ module _ (s : List ℕ) where
   turns-print zero place m count = ap endLine (omega arith)
   turns-print (suc n) place m count = one-more n place m count (λ p k. turns-print n p k (count + 1)) (nextAt s place) refl
 
-  -- two budgets that are not used up print the same
-  module _ (a b : ℕ) (place : ℕ) (m : Machine) (count : ℕ) where
-    same-more : ((p : ℕ) (k : Machine) → p ≤ length s → place < p → turnsFrom a s p k (count + 1) ≡ turnsFrom b s p k (count + 1))
-        → (r : Reading) → nextAt s place ≡ r → turnsFrom (suc a) s place m count ≡ turnsFrom (suc b) s place m count
-    unfolding turnsFrom turnOf turnBy afterTurn
-    same-more known (Record command next) e =
-        let i = is-read s place e in
-        let r = resultFor command m in
-        let line = lineOf (kindOf command) (codeOf (r .answer)) (valueOf (r .answer)) in
-        rw e (ap (λ (ys : List ℕ). line ++ ys) (known next (r .machine) (i .within) (i .above)))
-    same-more known End e = rw e
-    same-more known (Refused w at) e = rw e
-
-  same-bytes : (a b place : ℕ) (m : Machine) (count : ℕ) → place ≤ length s → length s < place + a → length s < place + b
-      → turnsFrom a s place m count ≡ turnsFrom b s place m count
-  same-bytes zero b place m count h ha hb = absurd (omega arith)
-  same-bytes (suc a) zero place m count h ha hb = absurd (omega arith)
-  same-bytes (suc a) (suc b) place m count h ha hb =
-      same-more a b place m count (λ p k l g. same-bytes a b p k (count + 1) l (omega arith) (omega arith)) (nextAt s place) refl
-
 -- the lines of repeated turns, with the end line, are the transcript
-pub turns-are-transcript : (script image constants : List ℕ) → turnsFrom (length script + 1) script 0 (chipOf image constants) 0 ≡ transcript script image constants
+pub turns-are-transcript : (script image constants : List ℕ)
+    → turnsFrom (length script + 1) script 0 (chipOf image constants) 0 ≡ transcript script image constants
 unfolding transcript linesOf
 turns-are-transcript script image constants =
     let ls = linesFrom (length script + 1) script 0 (chipOf image constants) in
     turns-print script (length script + 1) 0 (chipOf image constants) 0 ∙ ap (λ (n : ℕ). printed ls ++ endLine n) (omega arith)
 
 -- and so with any larger budget
-pub rehearsal : (n : ℕ) (script image constants : List ℕ) → length script < n → turnsFrom n script 0 (chipOf image constants) 0 ≡ transcript script image constants
+pub rehearsal : (n : ℕ) (script image constants : List ℕ) → length script < n
+    → turnsFrom n script 0 (chipOf image constants) 0 ≡ transcript script image constants
 rehearsal n script image constants h =
-    same-bytes script n (length script + 1) 0 (chipOf image constants) 0 (omega arith) (omega arith) (omega arith)
+    let m = chipOf image constants in
+    turns-print script n 0 m 0
+    ∙ ap (λ (ls : List Line). printed ls ++ endLine (0 + length ls)) (same-budget script n (length script + 1) 0 m (omega arith) (omega arith) (omega arith))
+    ∙ sym (turns-print script (length script + 1) 0 m 0)
     ∙ turns-are-transcript script image constants

@@ -38,7 +38,7 @@ linesFrom (suc n) script place m =
       | Refused refusal at ↦ record { kind = refusedKind script refusal at; code = refusalCode refusal; value = at } ∷ []
     ]
 
--- "The program runs standard input, from a fresh record, over fixed-name image and constants files"
+-- "The program runs standard input, from a fresh record, over fixed-name image and constants files". No file gives the sensed copy: it starts as 448 zeros.
 abbrev pub chipOf : List ℕ → List ℕ → Machine
 chipOf image constants = machineOf (fileWords image) (replicate 448 0) (fileWords constants) freshSession
 
@@ -46,6 +46,7 @@ chipOf image constants = machineOf (fileWords image) (replicate 448 0) (fileWord
 unfoldable pub linesOf : List ℕ → List ℕ → List ℕ → List Line
 linesOf script image constants = linesFrom (length script + 1) script 0 (chipOf image constants)
 
+-- the bytes of the lines
 unfoldable pub printed : List Line → List ℕ
 printed [] = []
 printed (l ∷ ls) = lineOf (l .kind) (l .code) (l .value) ++ printed ls

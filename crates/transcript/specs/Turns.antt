@@ -23,6 +23,7 @@ pub record Turn : Type 0 where
   pub place : ℕ
   pub line : List ℕ
 
+-- by what stands at the place: a record executed, the end, or a refusal's line
 unfoldable pub turnBy : Reading → List ℕ → ℕ → Machine → Turn
 turnBy (Record command next) script place m =
     let r = resultFor command m in
@@ -40,6 +41,7 @@ turnWith cells copy constants t = record { machine = machineOf cells copy consta
 
 -- ---- what a turn that found no record gives back
 
+-- the end, and a refusal
 abbrev pub endedAt : ℕ → Session → Turned
 endedAt place session = record { session = session; course = Ends; place = place; line = replicate 23 0 }
 
@@ -47,7 +49,7 @@ abbrev pub refusedAt : Refusal → ℕ → List ℕ → ℕ → Session → Turn
 refusedAt refusal at script place session =
     record { session = session; course = Stops; place = place; line = lineOf (refusedKind script refusal at) (refusalCode refusal) at }
 
--- a record does not come here; it counts as the end
+-- a record never comes here (its clause is never asked); it counts as the end
 abbrev pub stoppedOf : Reading → List ℕ → ℕ → Session → Turned
 stoppedOf (Record command next) script place session = endedAt place session
 stoppedOf End script place session = endedAt place session

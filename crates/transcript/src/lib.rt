@@ -28,6 +28,7 @@ pub struct Turned {
     pub line: [u8; 23],
 }
 
+// A byte of the script, 0 past its end.
 fn byte_at(script: &[u8], at: usize) -> u8
     ensures { λ r. ⌜ r ≡ byteAt (now (script .entry)) at ⌝ }
 {
@@ -45,6 +46,7 @@ fn refused_kind(script: &[u8], refusal: Refusal, place: usize) -> u8
     }
 }
 
+// The script ends here.
 fn ended(place: usize, session: Session) -> Turned
     ensures { λ r. ⌜ r ≡ endedAt place session ⌝ }
 {
@@ -56,6 +58,7 @@ fn ended(place: usize, session: Session) -> Turned
     }
 }
 
+// The line of a refusal at a place is the last.
 fn refused(script: &[u8], place: usize, refusal: Refusal, at: usize, session: Session) -> Turned
     ensures { λ r. ⌜ r ≡ refusedAt refusal at (now (script .entry)) place session ⌝ }
 {

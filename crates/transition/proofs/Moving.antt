@@ -1,5 +1,5 @@
 -- A transition as its code meets it, refusal by refusal. The idea: each of the paper's tests, once passed, leaves the next act.
-use mathlib.Core.Path.{_≡_, refl, sym, ap, _∙_}
+use mathlib.Core.Path.{_≡_, refl, sym, ap, ap₂, _∙_}
 use mathlib.Core.Bool.{true, false, not, _&&_}
 use mathlib.Core.List.{List}
 use Prim.Native.Nat.{ℕ, suc, _+_, _*_, _^_, _≤_, _<_}
@@ -29,6 +29,11 @@ use Rattle.transition.specs.declared.Permit.{Permit}
 use Rattle.transition.specs.declared.Permit.the-variants.{Granted, Refused}
 use Rattle.transition.specs.Permit.{permitOf, inert, dead, movedAs}
 use Rattle.transition.proofs.Tokens.{permittedAct, entering}
+
+-- programming takes its place and its words from the definition
+pub same-program : (cells : List ℕ) {at at′ : ℕ} {ws ws′ : List ℕ} → at ≡ at′ → ws ≡ ws′
+    → (programAnswer cells at ws ≡ programAnswer cells at′ ws′) × (programCells cells at ws ≡ programCells cells at′ ws′)
+same-program cells e f = (ap₂ (programAnswer cells) e f, ap₂ (programCells cells) e f)
 
 -- admitted, with a record whose state and count are in range
 pub record Known (m : Machine) : Type 0 where

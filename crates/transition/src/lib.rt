@@ -41,6 +41,7 @@ enum Permit {
     Refused(Answer),
 }
 
+// The record in another phase.
 fn in_phase(session: Session, phase: Phase) -> Session
     ensures { λ r. ⌜ r ≡ inPhase phase session ⌝ }
 {
@@ -123,6 +124,7 @@ fn place_of(token: Token) -> usize
     }
 }
 
+// The test behind 0x23.
 fn compared(token: Halves, high: u64, low: u64) -> Permit
     ensures { λ r. ⌜ r ≡ comparedAs (eqb (token .high * 2 ^ 64 + token .low) (high * 2 ^ 64 + low)) ⌝ }
 {
@@ -165,7 +167,7 @@ fn permitted(
     }
 }
 
-// The token comes as its high and its low 64 bits, hashed.
+// The transition command. The token comes as its high and its low 64 bits, hashed.
 pub fn transition(
     cells: &mut [u16],
     copy: &[u16],

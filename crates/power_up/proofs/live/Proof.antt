@@ -2,7 +2,6 @@
 use mathlib.Core.Path.{_≡_, sym, ap, _∙_}
 use Prim.Native.Nat.{ℕ}
 use borrow.Author.Needs.{needs}
-use Rattle.basics.specs.Range.{listed}
 use Rattle.partitions.specs.Map1.{map1}
 use Rattle.model.specs.Lent.{Lent}
 use Rattle.model.specs.declared.Reason.the-variants as reason
@@ -12,6 +11,10 @@ use Rattle.power_up.specs.Waking.{lentOf, wokenResult, deadOutcome}
 use Rattle.power_up.proofs.Waking.{life-cycle-slices, woken-as, dead-result, invalid, scrapped, usable}
 use Rattle.power_up.proofs.live.Statement.{statement}
 use Rattle.power_up.proofs.live.Tie as tie
+
+-- the life cycle decides
+abbrev byLife : Lent → Waking
+byLife l = lifeCycleWaking (lifeCycleIn map1 l)
 
 -- what the decoding tells
 module _ (t : tie.After-decode) where
@@ -24,9 +27,8 @@ module _ (t : tie.After-decode) where
   life : t .decode .result ≡ lifeCycleIn map1 lent
   life = t .decode .ensures ∙ life-cycle-slices lent (start .pre .0)
 
-  decided : {w : Waking} → lifeCycleWaking (lifeCycleIn map1 lent) ≡ w
-      → wokenResult (λ l. w) lent ≡ wokenResult (λ l. lifeCycleWaking (lifeCycleIn map1 l)) lent
-  decided e = sym (woken-as (λ l. lifeCycleWaking (lifeCycleIn map1 l)) lent e)
+  decided : {w : Waking} → byLife lent ≡ w → wokenResult (λ l. w) lent ≡ wokenResult byLife lent
+  decided e = sym (woken-as byLife lent e)
 
 sub-decode : tie.Need-sub-decode
 sub-decode c = search needs
@@ -75,8 +77,7 @@ returns c =
     let d = c .before .before in
     let g = d .before .before in
     let t = g .before .before in
-    let zeros = d .dead .ensures .0 ∙ ap (listed (λ j. 0) 0) (start t .pre .1) in
-    dead-result _ _ (lent t) zeros (d .dead .ensures .1) ∙ decided t (invalid (lent t) (sym (g .enum-told .given .1) ∙ life t))
+    dead-result byLife (lent t) (invalid (lent t) (sym (g .enum-told .given .1) ∙ life t)) (start t .pre .1) (d .dead .ensures .0) (d .dead .ensures .1)
 
 same-length-2 : tie.Need-same-length-2
 same-length-2 c = search needs
@@ -87,9 +88,9 @@ returns-2 c =
     let v = d .before .before in
     let s = v .before .before .before in
     let t = s .before .before in
-    let zeros = d .dead2 .ensures .0 ∙ ap (listed (λ j. 0) 0) (start t .pre .1) in
     let outcome = d .dead2 .ensures .1 ∙ ap (λ (x : ℕ). deadOutcome reason.LifeCycleFailed (LifeCycleFailed x)) (v .value-of .ensures) in
-    dead-result _ _ (lent t) zeros outcome ∙ decided t (scrapped (lent t) _ _ (sym (s .state .given .1) ∙ life t) (v .before .if1 .taken))
+    let scrap = scrapped (lent t) _ _ (sym (s .state .given .1) ∙ life t) (v .before .if1 .taken) in
+    dead-result byLife (lent t) scrap (start t .pre .1) (d .dead2 .ensures .0) outcome
 
 same-length-3 : tie.Need-same-length-3
 same-length-3 c = search needs

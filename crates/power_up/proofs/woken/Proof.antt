@@ -1,7 +1,6 @@
 -- A failed check ends the power-up; else the life cycle decides.
-use mathlib.Core.Path.{sym, ap, _∙_}
+use mathlib.Core.Path.{sym, _∙_}
 use borrow.Author.Needs.{needs}
-use Rattle.basics.specs.Range.{listed}
 use Rattle.partitions.specs.Map1.{map1}
 use Rattle.model.specs.Lent.{Lent}
 use Rattle.model.specs.PowerUp.{waking}
@@ -40,9 +39,8 @@ returns : tie.Need-returns
 returns c =
     let d = c .before .before in
     let t = d .before .before .before .before .before in
-    let zeros = d .dead .ensures .0 ∙ ap (listed (λ j. 0) 0) (start t .pre .1) in
     let told = sym (d .before .before .before .number .given .1) ∙ t .first-failing .ensures in
-    dead-result _ _ (lent t) zeros (d .dead .ensures .1) ∙ sym (woken-as (waking primitives map1) (lent t) (failed (lent t) _ told))
+    dead-result (waking primitives map1) (lent t) (failed (lent t) _ told) (start t .pre .1) (d .dead .ensures .0) (d .dead .ensures .1)
 
 same-length-2 : tie.Need-same-length-2
 same-length-2 c = search needs

@@ -4,7 +4,7 @@ use Prim.Native.Nat.{_≤_, _-_, _+_, _<_, _^_}
 use native.Mathlib.Omega.{arith}
 use lib.ListN.{length}
 use Rattle.script.specs.Lines.{decimal}
-use Rattle.script.proofs.Digits.{count-more, count-one}
+use Rattle.script.proofs.Decimal.{count-more, count-one}
 use Rattle.script.proofs.decimal_length.Statement.{statement}
 use Rattle.script.proofs.decimal_length.Tie as tie
 

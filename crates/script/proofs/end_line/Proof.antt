@@ -7,7 +7,7 @@ use lib.ListN.{length, take}
 use lib.Seq.{length-take-le}
 use borrow.Author.Needs.{needs}
 use Rattle.script.specs.declared.EndLine.{EndLine}
-use Rattle.script.proofs.Digits.{decimal-short}
+use Rattle.script.proofs.Decimal.{decimal-short}
 use Rattle.script.proofs.Lines.{zeros, end-length, end-written}
 use Rattle.script.proofs.end_line.Statement.{statement}
 use Rattle.script.proofs.end_line.Tie as tie
@@ -27,8 +27,11 @@ array-write-bytes-4 c = search needs
 decimal-length-requires : tie.Need-decimal-length-requires
 decimal-length-requires c κs = search needs
 
+few : (t : tie.After-decimal-length) → t .decimal-length .result ≤ 20
+few t = rw (t .decimal-length .ensures) (decimal-short 20 _)
+
 add-end : tie.Need-add-end
-add-end c = let b : c .decimal-length .result ≤ 20 = rw (c .decimal-length .ensures) (decimal-short 20 _) in omega arith
+add-end c = let b = few c in omega arith
 
 sub-put-digits : tie.Need-sub-put-digits
 sub-put-digits c = search needs
@@ -37,16 +40,16 @@ part-bytes-start : tie.Need-part-bytes-start
 part-bytes-start c = search needs
 
 part-bytes-end : tie.Need-part-bytes-end
-part-bytes-end c = let b : c .decimal-length .result ≤ 20 = rw (c .decimal-length .ensures) (decimal-short 20 _) in omega arith
+part-bytes-end c = let b = few c in omega arith
 
 put-digits-requires : tie.Need-put-digits-requires
 put-digits-requires c κs = search needs
 
 array-write-bytes-5 : tie.Need-array-write-bytes-5
-array-write-bytes-5 c = let b : c .before .before .before .decimal-length .result ≤ 20 = rw (c .before .before .before .decimal-length .ensures) (decimal-short 20 _) in omega arith
+array-write-bytes-5 c = let b = few (c .before .before .before) in omega arith
 
 add-t12 : tie.Need-add-t12
-add-t12 c = let b : c .before .before .before .decimal-length .result ≤ 20 = rw (c .before .before .before .decimal-length .ensures) (decimal-short 20 _) in omega arith
+add-t12 c = let b = few (c .before .before .before) in omega arith
 
 abbrev made : List ℕ → ℕ → EndLine
 made bytes len = record { bytes = bytes; len = len }

@@ -48,7 +48,9 @@ array-write-line c = search needs
 
 returns : tie.Need-returns
 unfolding digits lineOf
-returns c = rw (c .before .put-digits3 .ensures, c .before .before .before .before .put-digits2 .ensures, c .before .before .before .before .before .before .before .put-digits .ensures)
+returns c =
+    let t = c .before .before .before .before in
+    rw (c .before .put-digits3 .ensures, t .put-digits2 .ensures, t .before .before .before .put-digits .ensures)
 
 pub line-spec : {M : Type 1} → statement M
 line-spec =

@@ -49,7 +49,8 @@ returns-5 c =
     let e = c .before .before .before in
     let t = c .before .if4 .left in
     rw (c .command-at .ensures, c .before .before .body-length .ensures)
-    (sym (whole-record _ _ (e .before .before .before .if1 .left) (e .before .before .if2 .left) (e .if3 .left) (rw (c .before .before .body-length .ensures) at t)))
+    (sym (whole-record _ _ (e .before .before .before .if1 .left) (e .before .before .if2 .left) (e .if3 .left)
+    (rw (c .before .before .body-length .ensures) at t)))
 
 pub next-at-spec : {M : Type 1} → statement M
 next-at-spec =

@@ -10,7 +10,8 @@ use Rattle.script.proofs.put_digits.Statement.{statement}
 use Rattle.script.proofs.put_digits.Tie as tie
 
 abbrev Inv-loop : tie.InvT-loop
-Inv-loop part₀ base x i₀ rest₀ part i rest = (i ≤ length part) × (length part ≡ length part₀) × (drop i part ≡ digits base (length part₀ - i) x) × (rest ≡ x / base ^ (length part₀ - i))
+Inv-loop part₀ base x i₀ rest₀ part i rest =
+    (i ≤ length part) × (length part ≡ length part₀) × (drop i part ≡ digits base (length part₀ - i) x) × (rest ≡ x / base ^ (length part₀ - i))
 
 abbrev μ-loop : tie.MeasureT-loop
 μ-loop part₀ base x i₀ rest₀ part i rest = i
@@ -43,8 +44,12 @@ loop-again c =
     let a = c .before .before .before .before .args in
     let l = c .before .before .loop in
     let s = length-set (l .part) (l .i - 1) (c .digit-byte .result) in
-    let t = c .before .loop-test .taken in
-    (omega (arith, s), s ∙ l .inv .1, digits-more (a .base) (a .x) (l .i) (length (a .part .now)) (l .part) (l .rest) (c .digit-byte .result) t (l .inv .0) (l .inv .1) (l .inv .3) (l .inv .2) (c .digit-byte .ensures), rest-more (a .base) (a .x) (l .i) (length (a .part .now)) (l .part) (l .rest) (c .digit-byte .result) t (l .inv .0) (l .inv .1) (l .inv .3))
+    let t = c .before .loop-test .taken in (
+      omega (arith, s),
+      s ∙ l .inv .1,
+      digits-more (a .base) (a .x) (l .i) _ (l .part) (l .rest) _ t (l .inv .0) (l .inv .1) (l .inv .3) (l .inv .2) (c .digit-byte .ensures),
+      rest-more (a .base) (a .x) (l .i) _ (l .part) (l .rest) (c .digit-byte .result) t (l .inv .0) (l .inv .1) (l .inv .3),
+    )
 
 same-length : tie.Need-same-length Inv-loop μ-loop
 same-length c = c .before .loop .inv .1

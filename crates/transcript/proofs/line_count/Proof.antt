@@ -24,10 +24,14 @@ script t = t .before .before .before .args .script .now
 abbrev named : tie.After-known-told Inv-loop μ-loop → tie.After-next-at Inv-loop μ-loop
 named c = c .before .before .before
 
-found : (c : tie.After-known-told Inv-loop μ-loop) → nextAt (script (named c)) (named c .before .loop .place) ≡ Record (c .before .reading .given .0 .0) (c .before .reading .given .0 .1 .0)
+abbrev place : tie.After-next-at Inv-loop μ-loop → ℕ
+place t = t .before .loop .place
+
+found : (c : tie.After-known-told Inv-loop μ-loop) → let r = c .before .reading .given .0 in
+    nextAt (script (named c)) (place (named c)) ≡ Record (r .0) (r .1 .0)
 found c = sym (named c .next-at .ensures) ∙ c .before .reading .given .1
 
-read : (c : tie.After-known-told Inv-loop μ-loop) → IsRead (script (named c)) (named c .before .loop .place) (c .before .reading .given .0 .0) (c .before .reading .given .0 .1 .0)
+read : (c : tie.After-known-told Inv-loop μ-loop) → let r = c .before .reading .given .0 in IsRead (script (named c)) (place (named c)) (r .0) (r .1 .0)
 read c = is-read _ _ (found c)
 
 loop-holds : tie.Need-loop-holds Inv-loop μ-loop
@@ -46,7 +50,7 @@ loop-less : tie.Need-loop-less Inv-loop μ-loop
 loop-less c = let r = read c in omega (arith, r .above, r .within)
 
 loop-again : tie.Need-loop-again Inv-loop μ-loop
-loop-again c = let r = read c in (r .within, omega (arith, r .above), omega (arith, left-record (script (named c)) (named c .before .loop .place) (found c)))
+loop-again c = let r = read c in (r .within, omega (arith, r .above), omega (arith, left-record (script (named c)) (place (named c)) (found c)))
 
 enum-told : tie.Need-enum-told Inv-loop μ-loop
 enum-told c = search needs
@@ -54,7 +58,7 @@ enum-told c = search needs
 returns : tie.Need-returns Inv-loop μ-loop
 returns c = λ image constants.
     let t = c .before .before in
-    omega (arith, left-end (script t) (t .before .loop .place) (sym (t .next-at .ensures) ∙ c .enum-told .given .1), counted-lines (script t) image constants)
+    omega (arith, left-end (script t) (place t) (sym (t .next-at .ensures) ∙ c .enum-told .given .1), counted-lines (script t) image constants)
 
 enum-told-2 : tie.Need-enum-told-2 Inv-loop μ-loop
 enum-told-2 c = search needs
@@ -65,7 +69,7 @@ add-result c = omega arith
 returns-2 : tie.Need-returns-2 Inv-loop μ-loop
 returns-2 c = λ image constants.
     let t = c .before .before in
-    omega (arith, left-refused (script t) (t .before .loop .place) (sym (t .next-at .ensures) ∙ c .enum-told2 .given .1), counted-lines (script t) image constants)
+    omega (arith, left-refused (script t) (place t) (sym (t .next-at .ensures) ∙ c .enum-told2 .given .1), counted-lines (script t) image constants)
 
 pub line-count-spec : {M : Type 1} → statement M
 line-count-spec =

@@ -21,7 +21,8 @@ byte-at-requires-2 c κs = search needs
 enum-told-3 : tie.Need-enum-told-3
 enum-told-3 c = search needs
 
-by-refusal : (s : tie.Start) {refusal : Refusal} → s .args .refusal ≡ refusal → refusedKind (s .args .script .now) refusal (s .args .place) ≡ refusedKind (s .args .script .now) (s .args .refusal) (s .args .place)
+by-refusal : (s : tie.Start) {refusal : Refusal} → let o = s .args in
+    o .refusal ≡ refusal → refusedKind (o .script .now) refusal (o .place) ≡ refusedKind (o .script .now) (o .refusal) (o .place)
 by-refusal s e = ap (λ (r : Refusal). refusedKind (s .args .script .now) r (s .args .place)) (sym e)
 
 returns : tie.Need-returns

@@ -24,8 +24,8 @@ enum-known-reading c = search needs
 refused-requires : tie.Need-refused-requires
 refused-requires c κs = search needs
 
-by-reading : (s : tie.Start) {n : Reading} → s .args .reading ≡ n
-    → stoppedOf n (s .args .script .now) (s .args .place) (s .args .session) ≡ stoppedOf (s .args .reading) (s .args .script .now) (s .args .place) (s .args .session)
+by-reading : (s : tie.Start) {n : Reading} → let o = s .args in
+    o .reading ≡ n → stoppedOf n (o .script .now) (o .place) (o .session) ≡ stoppedOf (o .reading) (o .script .now) (o .place) (o .session)
 by-reading s e = ap (λ (n : Reading). stoppedOf n (s .args .script .now) (s .args .place) (s .args .session)) (sym e)
 
 returns : tie.Need-returns

@@ -22,10 +22,10 @@ start t = t .before .before .before .before .before
 returns : tie.Need-returns
 unfolding turnOf
 returns c =
-    let s = start (c .before .before) in
+    let o = start (c .before .before) .args in
     let n = c .before .before .next-at .result in
     rw (c .stopped .ensures, ← c .before .before .next-at .ensures)
-    (turn-stopped n (s .args .script .now) (s .args .place) (s .args .cells .now) (s .args .copy .now) (s .args .constants .now) (s .args .session) (c .before .match .keys2))
+    (turn-stopped n (o .script .now) (o .place) (o .cells .now) (o .copy .now) (o .constants .now) (o .session) (c .before .match .keys2))
 
 execute-requires : tie.Need-execute-requires
 execute-requires c κs = search needs

@@ -1,5 +1,5 @@
 -- The state words are those of the definition, and so is their place.
-use mathlib.Core.Path.{_≡_, sym, ap, ap₂, _∙_}
+use mathlib.Core.Path.{_≡_, sym, ap, _∙_}
 use Rattle.words.specs.Programming.{programAnswer, programCells}
 use Rattle.life_cycle.specs.Words.{stateWords}
 use Rattle.partitions.specs.Map1.{map1}
@@ -7,6 +7,7 @@ use Rattle.model.specs.Commands.{stateAt}
 use Rattle.chip.specs.Chip.{primitives}
 use Rattle.transition.specs.Permit.{movedAs}
 use Rattle.model.proofs.LifeCyclePlace.{state-place}
+use Rattle.transition.proofs.Moving.{same-program}
 use borrow.Author.Needs.{needs}
 use Rattle.transition.proofs.move_to.Statement.{statement}
 use Rattle.transition.proofs.move_to.Tie as tie
@@ -44,7 +45,8 @@ answered : (q : tie.After-program) → let o = start q .args in
 answered q =
     let o = start q .args in
     let e = q .before .before .before .state-words .ensures in
-    (q .program .ensures .0 ∙ ap₂ (programAnswer (o .cells .now)) (state-place primitives) e, q .program .ensures .1 ∙ ap₂ (programCells (o .cells .now)) (state-place primitives) e)
+    let same = same-program (o .cells .now) (state-place primitives) e in
+    (q .program .ensures .0 ∙ same .0, q .program .ensures .1 ∙ same .1)
 
 returns : tie.Need-returns
 returns c =

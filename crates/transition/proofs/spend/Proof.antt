@@ -1,9 +1,9 @@
 -- The counter words are those of the definition, and so is their place.
-use mathlib.Core.Path.{ap, ap₂, _∙_}
+use mathlib.Core.Path.{ap, _∙_}
 use native.Mathlib.Numerals.{add-one}
-use Rattle.words.specs.Programming.{programAnswer, programCells}
 use Rattle.life_cycle.specs.Words.{counterWords}
 use Rattle.model.proofs.LifeCyclePlace.{counter-place}
+use Rattle.transition.proofs.Moving.{same-program}
 use Rattle.chip.specs.Chip.{primitives}
 use borrow.Author.Needs.{needs}
 use Rattle.transition.proofs.spend.Statement.{statement}
@@ -30,7 +30,8 @@ returns c =
     let w = q .before .before .before in
     let o = w .before .before .before .args in
     let e = w .counter-words .ensures ∙ ap (counterWords (o .constants .now)) (add-one (o .count)) in
-    (q .program .ensures .0 ∙ ap₂ (programAnswer (o .cells .now)) (counter-place primitives) e, q .program .ensures .1 ∙ ap₂ (programCells (o .cells .now)) (counter-place primitives) e)
+    let same = same-program (o .cells .now) (counter-place primitives) e in
+    (q .program .ensures .0 ∙ same .0, q .program .ensures .1 ∙ same .1)
 
 pub spend-spec : {M : Type 1} → statement M
 spend-spec =
