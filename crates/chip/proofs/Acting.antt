@@ -36,7 +36,7 @@ admission m = admittedOf (length (m .lent .cells)) (length (m .lent .copy)) (m .
 
 -- what an act comes to on a machine
 pub comesTo : Act → Machine → Result
-comesTo a m = performed primitives map1 (perform a (m .lent .copy) (m .lent .cells)) m .result
+comesTo a m = performed (perform a (m .lent .copy) (m .lent .cells)) m .result
 
 -- every command but power-up
 abbrev pub Acting : Command → Type 0
@@ -77,18 +77,18 @@ module _ (m : Machine) where
     program-refused i e = rw e
 
   -- a comparison is noted, and changes nothing
-  noted : (b : Bool) (r : Performed) → performed primitives map1 (noting b r) m .result ≡ performed primitives map1 r m .result
+  noted : (b : Bool) (r : Performed) → performed (noting b r) m .result ≡ performed r m .result
   unfolding performed noting
   noted b r = refl
 
   module _ (test : List ℕ → Bool) (same other : Act) where
     pub compare-same : test (m .lent .copy) ≡ true → comesTo (compare test same other) m ≡ comesTo same m
     unfolding comesTo perform
-    compare-same e = noted _ _ ∙ ap (λ (r : Performed). performed primitives map1 r m .result) (if-true _ _ e)
+    compare-same e = noted _ _ ∙ ap (λ (r : Performed). performed r m .result) (if-true _ _ e)
 
     pub compare-other : test (m .lent .copy) ≡ false → comesTo (compare test same other) m ≡ comesTo other m
     unfolding comesTo perform
-    compare-other e = noted _ _ ∙ ap (λ (r : Performed). performed primitives map1 r m .result) (if-false _ _ e)
+    compare-other e = noted _ _ ∙ ap (λ (r : Performed). performed r m .result) (if-false _ _ e)
 
 -- ---- a command, by its admission
 

@@ -1,4 +1,4 @@
--- What code reads of what is lent, against the definitions. The idea: eight words are two numbers of four, and a part inside the cells is a slice of them.
+-- What code reads of what is lent, against the definitions. The idea: code branches where a definition chooses, and a part inside the cells is a slice of them.
 use mathlib.Core.Path.{_≡_, sym, ap}
 use mathlib.Core.Bool.{true, false}
 use mathlib.Core.List.{List}
@@ -18,24 +18,24 @@ use Rattle.chip.specs.Chip.{primitives}
 
 -- a secret's blocks are stored scrambled, all others plain
 module _ (k : List ℕ) (p : Partition) (block : ℕ) where
-  pub plain : rightsOf (p .kind) .scrambled ≡ false → block ≡ scrambled primitives map1 k p block
+  pub plain : rightsOf (p .kind) .scrambled ≡ false → block ≡ scrambled primitives k p block
   unfolding scrambled
   plain e = sym (if-false _ _ e)
 
-  pub plain-back : rightsOf (p .kind) .scrambled ≡ false → block ≡ unscrambled primitives map1 k p block
+  pub plain-back : rightsOf (p .kind) .scrambled ≡ false → block ≡ unscrambled primitives k p block
   unfolding unscrambled
   plain-back e = sym (if-false _ _ e)
 
-  pub secret : rightsOf (p .kind) .scrambled ≡ true → encryptBlock (keyOf k (p .kind)) block ≡ scrambled primitives map1 k p block
+  pub secret : rightsOf (p .kind) .scrambled ≡ true → encryptBlock (keyOf k (p .kind)) block ≡ scrambled primitives k p block
   unfolding scrambled
   secret e = sym (if-true _ _ e)
 
-  pub secret-back : rightsOf (p .kind) .scrambled ≡ true → decryptBlock (keyOf k (p .kind)) block ≡ unscrambled primitives map1 k p block
+  pub secret-back : rightsOf (p .kind) .scrambled ≡ true → decryptBlock (keyOf k (p .kind)) block ≡ unscrambled primitives k p block
   unfolding unscrambled
   secret-back e = sym (if-true _ _ e)
 
 -- the digest over the slice of the data words
 pub data-digest : (k : List ℕ) (p : Partition) (cells : List ℕ) → p .start ≤ p .digest → p .digest / 2 ≤ length cells
-    → digestWords (digestStart k) (digestFinal k) (take (p .digest / 2 - p .start / 2) (drop (p .start / 2) cells)) ≡ computedDigest primitives map1 k p cells
+    → digestWords (digestStart k) (digestFinal k) (take (p .digest / 2 - p .start / 2) (drop (p .start / 2) cells)) ≡ computedDigest primitives k p cells
 unfolding computedDigest dataWords
 data-digest k p cells l u = ap (digestWords (digestStart k) (digestFinal k)) (sym (part-slice cells (p .start / 2) (p .digest / 2 - p .start / 2) (omega arith)))

@@ -109,7 +109,7 @@ pub fn key_of(constants: &[u16], kind: Kind) -> Halves
 
 // A block as a partition stores it.
 pub fn scrambled(constants: &[u16], partition: Partition, block: u64) -> u64
-    ensures { λ r. ⌜ r ≡ scrambled primitives map1 (now (constants .entry)) partition block ⌝ }
+    ensures { λ r. ⌜ r ≡ scrambled primitives (now (constants .entry)) partition block ⌝ }
 {
     let kind = partition.kind;
     let rights = kind.rights();
@@ -122,7 +122,7 @@ pub fn scrambled(constants: &[u16], partition: Partition, block: u64) -> u64
 
 // A block that a partition stored, in the clear.
 pub fn unscrambled(constants: &[u16], partition: Partition, block: u64) -> u64
-    ensures { λ r. ⌜ r ≡ unscrambled primitives map1 (now (constants .entry)) partition block ⌝ }
+    ensures { λ r. ⌜ r ≡ unscrambled primitives (now (constants .entry)) partition block ⌝ }
 {
     let kind = partition.kind;
     let rights = kind.rights();

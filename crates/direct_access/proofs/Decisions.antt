@@ -76,7 +76,7 @@ unlocked false i c d x y = refl
 
 -- the digest that a digest command programs
 abbrev pub digestNow : Machine → Partition → ℕ
-digestNow m p = computedDigest primitives map1 (m .lent .constants) p (m .lent .cells)
+digestNow m p = computedDigest primitives (m .lent .constants) p (m .lent .cells)
 
 module _ (m : Machine) (a : ℕ) where
   pub read-decided : Decided (Read a) m a (λ n p. mayRead (m .session) n p a) (λ p. say (Done (readValue (m .lent .cells) (m .lent .constants) p a)) stay)
@@ -89,7 +89,7 @@ module _ (m : Machine) (a : ℕ) where
 
   pub write-decided : (value : ℕ)
       → Decided (Write a value) m a (λ n p. mayWrite (m .session) n p a)
-      (λ p. program (firstWord p a) (wordsOf (wordCount p a) (scrambled primitives map1 (m .lent .constants) p value)) stay (say (Done 0) stay))
+      (λ p. program (firstWord p a) (wordsOf (wordCount p a) (scrambled primitives (m .lent .constants) p value)) stay (say (Done 0) stay))
   unfolding commandAct writeAct mayWrite guarded
   write-decided value =
       let p = partitionAt map1 a in

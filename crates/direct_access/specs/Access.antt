@@ -47,7 +47,7 @@ mayDigest s n p a = rightsOf (p .kind) .hardware && eqb a (p .start) && not (sen
 -- "Digests are always readable, plain. Secret data is unscrambled"
 unfoldable pub readValue : List ℕ → List ℕ → Partition → ℕ → ℕ
 readValue cells constants p a =
-    if inDigest p a then granule p cells a else unscrambled primitives map1 constants p (granule p cells a)
+    if inDigest p a then granule p cells a else unscrambled primitives constants p (granule p cells a)
 
 -- a value where the words were programmed, 4 where a cell refused
 abbrev pub programmedAnswer : Programmed → ℕ → Answer

@@ -5,10 +5,8 @@ use mathlib.Core.Bool.{Bool, true, false, _&&_}
 use mathlib.Core.List.{List, [], _∷_}
 use Prim.Native.Nat.{ℕ, suc, _+_, _*_, _/_, _≤_, _<_}
 use native.Mathlib.Omega.{arith}
-use lib.Dec.{eqb, ltb}
-use lib.ListN.{length, getD, set, length-set}
-use lib.Seq.{sets, getD-set-same, getD-set-other, set-out}
-use borrow.Author.Tests.{leb-false, eqb-true, eqb-false, ltb-true, ltb-false, not-false}
+use lib.ListN.{length, getD}
+use borrow.Author.Tests.{leb-false, not-false}
 use Rattle.basics.specs.Choice.{if_then_else_}
 use Rattle.basics.specs.Range.{listed}
 use Rattle.basics.proofs.Choice.{by-cases, true-not-false, not-passed, if-true, if-false, if-same}
@@ -18,7 +16,8 @@ use Rattle.words.specs.declared.Programmed.the-variants as programmed
 use Rattle.words.specs.Words.{numberOf}
 use Rattle.words.specs.Programming.{programAnswer, programCells}
 use Rattle.words.proofs.Parts.{part-same}
-use Rattle.words.proofs.Programming.{answer-same, by-answer, stored-done, stored-refused, program-length}
+use Rattle.words.proofs.Programming.{answer-same, program-length}
+use Rattle.words.proofs.Alike.{Same, program-alike}
 use Rattle.partitions.specs.declared.Kind.the-variants as kind
 use Rattle.partitions.specs.declared.Partition.{Partition}
 use Rattle.partitions.specs.Fitness.{fit}
@@ -42,35 +41,6 @@ use Rattle.model.proofs.Acts.{Within, says, programs, compares, within-
 use Rattle.model.proofs.Frame.{Open, unlocked, lifeCycle, not-locked, life-words, life-closed, life-same, act-within}
 use Rattle.model.proofs.Steps.{obey-both, step-obeys, step-up, cells-length, up-right, act-right}
 use Rattle.model.proofs.Locks.{Locked, up-locked, act-locked}
-
--- ---- cells that are equal where P holds
-
-pub record Same (P : ℕ → Type 0) (c d : List ℕ) : Type 0 where
-  pub at : (j : ℕ) → P j → getD c j 0 ≡ getD d j 0
-
-set-alike : {P : ℕ → Type 0} (c d : List ℕ) (i v : ℕ) → length c ≡ length d → Same P c d → Same P (set c i v) (set d i v)
-set-alike {P} c d i v e h = record { at = λ j p. by-cases (eqb j i) (here j p) (there j p) }
-  where
-    put : (j : ℕ) → P j → getD (set c j v) j 0 ≡ getD (set d j v) j 0
-    put j p =
-        by-cases (ltb j (length c)) (λ t. getD-set-same c j v 0 (ltb-true _ _ t) ∙ sym (getD-set-same d j v 0 (omega (arith, ltb-true))))
-        (λ t. rw (set-out c j v (ltb-false _ _ t), set-out d j v (omega (arith, ltb-false))) (h .at j p))
-
-    here : (j : ℕ) → P j → eqb j i ≡ true → getD (set c i v) j 0 ≡ getD (set d i v) j 0
-    here j p t = rw (← eqb-true j i t) (put j p)
-
-    there : (j : ℕ) → P j → eqb j i ≡ false → getD (set c i v) j 0 ≡ getD (set d i v) j 0
-    there j p t = rw (getD-set-other c i j v 0 (eqb-false j i t), getD-set-other d i j v 0 (eqb-false j i t)) (h .at j p)
-
-sets-alike : {P : ℕ → Type 0} (vs c d : List ℕ) (i : ℕ) → length c ≡ length d → Same P c d → Same P (sets c i vs) (sets d i vs)
-sets-alike [] c d i e h = h
-sets-alike (v ∷ vs) c d i e h = sets-alike vs (set c i v) (set d i v) (suc i) (rw (length-set c i v, length-set d i v) e) (set-alike c d i v e h)
-
-program-alike : {P : ℕ → Type 0} (vs c d : List ℕ) (i : ℕ) → length c ≡ length d → Same P c d → programAnswer c i vs ≡ programAnswer d i vs
-    → Same P (programCells c i vs) (programCells d i vs)
-program-alike vs c d i e h q =
-    by-answer (programAnswer c i vs) (λ t. rw (stored-done c vs i t, stored-done d vs i (sym q ∙ t)) (sets-alike vs c d i e h))
-    (λ n t. rw (stored-refused c vs i n t, stored-refused d vs i n (sym q ∙ t)) h)
 
 -- ---- one act on two chips
 
@@ -159,7 +129,7 @@ module _ (prims : Primitives) (map : Map) (F : fit map ≡ true) (H : ℕ → Ty
         ap numberOf (part-same k k′ _ _ (λ j lo hi. g .at j (record { low = omega (arith, granule-within map F l); front = rw (word-number map F l lo hi) f })))
 
     computed-same : (a : ℕ) → a < limit map → (H (numberAt map a) → ⊥)
-        → computedDigest prims map t (partitionAt map a) c ≡ computedDigest prims map t (partitionAt map a) d
+        → computedDigest prims t (partitionAt map a) c ≡ computedDigest prims t (partitionAt map a) d
     unfolding computedDigest dataWords partitionAt
     computed-same a l n =
         let i = numberAt map a in
@@ -175,7 +145,7 @@ module _ (prims : Primitives) (map : Map) (F : fit map ≡ true) (H : ℕ → Ty
     command-same (Read a) r = if-same (λ e. refl) λ l. if-same (λ e. refl) λ e. if-same
         (λ i. ap (λ (x : ℕ). say (Done x) stay) (granule-same a (leb-false _ _ l) (λ j lo hi. digest-shown a j (leb-false _ _ l) i lo hi)))
         λ i. if-same (λ e. refl) λ e. if-same (λ e. refl)
-        λ z. ap (λ (x : ℕ). say (Done (unscrambled prims map t (partitionAt map a) x)) stay)
+        λ z. ap (λ (x : ℕ). say (Done (unscrambled prims t (partitionAt map a) x)) stay)
         (granule-same a (leb-false _ _ l) (λ j lo hi. data-shown a j (leb-false _ _ l) r z lo hi))
     command-same (FrontRead a) r = if-same (λ t. refl) λ l. if-same (λ t. refl) λ f. if-same (λ t. refl) λ i.
         ap (λ (x : ℕ). say (Done x) stay) (front-same a (leb-false _ _ l) (not-false _ f))
@@ -247,7 +217,7 @@ module _ (prims : Primitives) (map : Map) (F : fit map ≡ true) (H : ℕ → Ty
   unfolding storedDigest
   stored-alike c d h n l e = ap numberOf (part-same c d _ 4 (λ j lo hi. h .at j (digest-shows n l e j lo hi)))
 
-  life-shown : (j : ℕ) → counterAt prims map ≤ j → j < counterAt prims map + 44 → Shown map H j
+  life-shown : (j : ℕ) → counterAt map ≤ j → j < counterAt map + 44 → Shown map H j
   life-shown j lo hi = closed-shown j (life-words prims map F j lo hi)
 
   copies-alike : (t c d : List ℕ) → Same (Shown map H) c d
@@ -266,7 +236,7 @@ module _ (prims : Primitives) (map : Map) (F : fit map ≡ true) (H : ℕ → Ty
   woken-views (wakes state count) c d k k′ t h = copies-alike t c d h
 
   woken-records : (w : Waking) (c d k k′ t : List ℕ) → Same (Shown map H) c d
-      → wokenSession prims map w (record { cells = c; copy = k; constants = t }) ≡ wokenSession prims map w (record { cells = d; copy = k′; constants = t })
+      → wokenSession map w (record { cells = c; copy = k; constants = t }) ≡ wokenSession map w (record { cells = d; copy = k′; constants = t })
   unfolding wokenSession
   woken-records (fails reason answer) c d k k′ t h = refl
   woken-records (wakes state count) c d k k′ t h =
@@ -280,7 +250,7 @@ module _ (prims : Primitives) (map : Map) (F : fit map ≡ true) (H : ℕ → Ty
   up-made c d k k′ t s s′ r r′ h z g =
       let e = ap₂ wakingOf (sym (g .0)) (sym (life-same prims map F c d k k′ t (λ j lo hi. h .at j (life-shown j lo hi)))) in
       record {
-        answer = ap (wokenAnswer prims map) (sym e);
+        answer = ap (wokenAnswer) (sym e);
         pair = record {
           right = up-right prims map (made c k t s) r;
           rightToo = up-right prims map (made d k′ t s′) r′;

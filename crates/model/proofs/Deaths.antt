@@ -81,19 +81,19 @@ module _ (prims : Primitives) (map : Map) (m : Machine) where
     abbrev pub Told : Step → Type 0
     Told s = (s .result .machine ≡ m → ⊥) → s .result .machine .session .phase ≡ Dead reason → codeOf (s .result .answer) ≡ reasonCode reason
 
-    woken-told : (v : Option ℕ) (life : LifeCycle) (l : Lent) → wokenSession prims map (wakingOf v life) l .phase ≡ Dead reason
-        → codeOf (wokenAnswer prims map (wakingOf v life)) ≡ reasonCode reason
+    woken-told : (v : Option ℕ) (life : LifeCycle) (l : Lent) → wokenSession map (wakingOf v life) l .phase ≡ Dead reason
+        → codeOf (wokenAnswer (wakingOf v life)) ≡ reasonCode reason
     unfolding wakingOf lifeCycleWaking wokenSession wokenAnswer dead-code
     woken-told (some number) life l = ap dead-code
     woken-told none Invalid l = ap dead-code
     woken-told none (Valid state count) l =
-        if-both (λ (w : Waking). wokenSession prims map w l .phase ≡ Dead reason → codeOf (wokenAnswer prims map w) ≡ reasonCode reason) _ _ _
+        if-both (λ (w : Waking). wokenSession map w l .phase ≡ Dead reason → codeOf (wokenAnswer w) ≡ reasonCode reason) _ _ _
         (λ t. ap dead-code) (λ t e. absurd (not-dead e refl))
 
     act-told : (x : Command) → Told (act prims map x m)
     unfolding act performed readyAct perform
     act-told x =
-        if-both (λ (y : Act). Told (performed prims map (perform y (m .lent .copy) (m .lent .cells)) m)) _ _ _
+        if-both (λ (y : Act). Told (performed (perform y (m .lent .copy) (m .lent .cells)) m)) _ _ _
         (λ t h. absurd (h (same-machine prims map m (perform (refuse NotReady) (m .lent .copy) (m .lent .cells)) refl refl)))
         (λ t h. turned-dead _ _ (m .session) (perform-gives (command-dies x) (m .lent .copy) (m .lent .cells)) (not-false _ t))
 

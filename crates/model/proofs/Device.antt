@@ -59,7 +59,7 @@ module _ (prims : Primitives) (map : Map) (F : fit map ≡ true) (n : ℕ) (D : 
     same : SamePartition map n c₁ (m .lent .cells)
     held : isReady (m .session .phase) ≡ true → SamePartition map n c₁ (m .lent .copy)
 
-  woken-held : (w : Waking) (l : Lent) → SamePartition map n c₁ (l .cells) → isReady (wokenSession prims map w l .phase) ≡ true
+  woken-held : (w : Waking) (l : Lent) → SamePartition map n c₁ (l .cells) → isReady (wokenSession map w l .phase) ≡ true
       → SamePartition map n c₁ (wokenCopy prims map w l)
   unfolding wokenSession wokenCopy isReady
   woken-held (fails reason answer) l h e = absurd (true-not-false e refl)

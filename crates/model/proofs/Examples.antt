@@ -164,7 +164,7 @@ front-read = refl
 
 -- ---- a course: RAW to TEST_UNLOCKED0 spends a stroke and takes an entry of the table
 
-course-taken : lifeCycleIn toy map1 (after toy map1 (PowerUp ∷ Transition 1 0 7 ∷ []) (off blank) .lent) ≡ Valid 1 1
+course-taken : lifeCycleIn map1 (after toy map1 (PowerUp ∷ Transition 1 0 7 ∷ []) (off blank) .lent) ≡ Valid 1 1
 unfolding everything
 course-taken = refl
 

@@ -68,7 +68,7 @@ not-locked s n e = eqb-true _ _ (not-false _ e)
 module _ (prims : Primitives) (map : Map) (F : fit map ≡ true) where
   -- ---- the life cycle words: they lie in LIFE_CYCLE, direct access is closed to them, and what is decoded depends on them alone
 
-  pub life-words : (j : ℕ) → counterAt prims map ≤ j → j < counterAt prims map + 44 → numberAt map (2 * j) ≡ numberOfKind map kind.LifeCycle
+  pub life-words : (j : ℕ) → counterAt map ≤ j → j < counterAt map + 44 → numberAt map (2 * j) ≡ numberOfKind map kind.LifeCycle
   unfolding counterAt
   life-words j l u = life-cycle-word map F l u
 
@@ -77,8 +77,8 @@ module _ (prims : Primitives) (map : Map) (F : fit map ≡ true) where
   life-closed j e = rw e (life-cycle-partition map F .closed)
 
   pub life-same : (c d copy copy′ t : List ℕ)
-      → ((j : ℕ) → counterAt prims map ≤ j → j < counterAt prims map + 44 → getD c j 0 ≡ getD d j 0)
-      → lifeCycleIn prims map (record { cells = c; copy = copy; constants = t }) ≡ lifeCycleIn prims map (record { cells = d; copy = copy′; constants = t })
+      → ((j : ℕ) → counterAt map ≤ j → j < counterAt map + 44 → getD c j 0 ≡ getD d j 0)
+      → lifeCycleIn map (record { cells = c; copy = copy; constants = t }) ≡ lifeCycleIn map (record { cells = d; copy = copy′; constants = t })
   unfolding lifeCycleIn stateAt
   life-same c d copy copy′ t h =
       ap₂ (λ (x y : List ℕ). decoded t x y) (part-same c d _ 24 (λ j lo hi. h j lo (omega arith)))
@@ -91,12 +91,12 @@ module _ (prims : Primitives) (map : Map) (F : fit map ≡ true) where
     k = m .lent .constants
 
     abbrev Life : ℕ → Type 0
-    Life j = (counterAt prims map ≤ j) × (j < counterAt prims map + 44)
+    Life j = (counterAt map ≤ j) × (j < counterAt map + 44)
 
     move-within : (target : ℕ) → Within Life (moveAct prims map m target)
     unfolding moveAct stateAt
     move-within target =
-        programs {at = counterAt prims map + 24} {words = stateWords k target} (λ j l u. (omega arith, omega (arith, state-length k target))) says
+        programs {at = counterAt map + 24} {words = stateWords k target} (λ j l u. (omega arith, omega (arith, state-length k target))) says
 
     locked-within : (token : Token) (target given : ℕ) → Within Life (lockedTokenAct prims map m token target given)
     unfolding lockedTokenAct
@@ -119,7 +119,7 @@ module _ (prims : Primitives) (map : Map) (F : fit map ≡ true) where
     unfolding transitionAct
     transition-within target given = within-if (λ t. says) λ t. within-if (λ t. says) λ t. within-if (λ t. says) λ t.
         let n = suc (m .session .count) in
-        programs {at = counterAt prims map} {words = counterWords k n} (λ j l u. (l, omega (arith, counter-length k n)))
+        programs {at = counterAt map} {words = counterWords k n} (λ j l u. (l, omega (arith, counter-length k n)))
         (entry-within (transition (m .session .state) target) target given)
 
     -- ---- every command

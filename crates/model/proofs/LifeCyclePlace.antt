@@ -8,10 +8,10 @@ use Rattle.model.specs.Lent.{Primitives}
 use Rattle.model.specs.Commands.{counterAt, stateAt}
 
 module _ (prims : Primitives) where
-  pub counter-place : 404 ≡ counterAt prims map1
+  pub counter-place : 404 ≡ counterAt map1
   unfolding counterAt numberOfKind kindNumber partition map1 if_then_else_
   counter-place = refl
 
-  pub state-place : 428 ≡ stateAt prims map1
+  pub state-place : 428 ≡ stateAt map1
   unfolding stateAt
   state-place = ap (λ (n : ℕ). n + 24) counter-place

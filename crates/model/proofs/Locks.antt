@@ -84,7 +84,7 @@ module _ (prims : Primitives) (map : Map) (F : fit map ≡ true) (n : ℕ) (D : 
     pub felt : isReady (m .session .phase) ≡ true → sensedAt (m .session) n ≡ 0 → ⊥
 
   woken-felt : (w : Waking) (l : Lent) → (storedDigest (partition map n) (l .cells) ≡ 0 → ⊥)
-      → isReady (wokenSession prims map w l .phase) ≡ true → sensedAt (wokenSession prims map w l) n ≡ 0 → ⊥
+      → isReady (wokenSession map w l .phase) ≡ true → sensedAt (wokenSession map w l) n ≡ 0 → ⊥
   unfolding wokenSession isReady sensedAt
   woken-felt (fails reason answer) l h r z = true-not-false r refl
   woken-felt (wakes state count) l h r z = h (sym (sensed-stored l) ∙ z)

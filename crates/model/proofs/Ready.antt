@@ -97,14 +97,14 @@ pub record Fresh (map : Map) (c₀ : List ℕ) (m : Machine) : Type 0 where
 module _ (prims : Primitives) (map : Map) (F : fit map ≡ true) where
   -- a power-up answers 0 exactly where it wakes
   life-wakes : (life : LifeCycle) (Q : Waking → Type 0) → ((state count : ℕ) → Q (wakes state count))
-      → codeOf (wokenAnswer prims map (lifeCycleWaking life)) ≡ 0x00 → Q (lifeCycleWaking life)
+      → codeOf (wokenAnswer (lifeCycleWaking life)) ≡ 0x00 → Q (lifeCycleWaking life)
   unfolding lifeCycleWaking wokenAnswer
   life-wakes Invalid Q h = λ e. absurd (omega arith)
   life-wakes (Valid state count) Q h =
-      if-both (λ (w : Waking). codeOf (wokenAnswer prims map w) ≡ 0x00 → Q w) _ _ _ (λ t e. absurd (omega arith)) (λ t e. h state count)
+      if-both (λ (w : Waking). codeOf (wokenAnswer w) ≡ 0x00 → Q w) _ _ _ (λ t e. absurd (omega arith)) (λ t e. h state count)
 
   waking-wakes : (verdict : Option ℕ) (life : LifeCycle) (Q : Waking → Type 0) → ((state count : ℕ) → Q (wakes state count))
-      → codeOf (wokenAnswer prims map (wakingOf verdict life)) ≡ 0x00 → Q (wakingOf verdict life)
+      → codeOf (wokenAnswer (wakingOf verdict life)) ≡ 0x00 → Q (wakingOf verdict life)
   unfolding wakingOf wokenAnswer
   waking-wakes (some number) life Q h = λ e. absurd (omega arith)
   waking-wakes none life Q h = life-wakes life Q h
@@ -115,8 +115,8 @@ module _ (prims : Primitives) (map : Map) (F : fit map ≡ true) where
   up-wakes m Q h = waking-wakes _ _ Q h
 
   woke-fresh : (m : Machine) (state count : ℕ)
-      → (isReady (wokenSession prims map (wakes state count) (m .lent) .phase) ≡ true)
-      × ((n : ℕ) → Digested map n → sensedAt (wokenSession prims map (wakes state count) (m .lent)) n ≡ storedDigest (partition map n) (m .lent .cells))
+      → (isReady (wokenSession map (wakes state count) (m .lent) .phase) ≡ true)
+      × ((n : ℕ) → Digested map n → sensedAt (wokenSession map (wakes state count) (m .lent)) n ≡ storedDigest (partition map n) (m .lent .cells))
   unfolding wokenSession isReady sensedAt
   woke-fresh m state count = (refl, λ n d. sensed-stored prims map F n d (m .lent))
 
@@ -124,8 +124,8 @@ module _ (prims : Primitives) (map : Map) (F : fit map ≡ true) where
   up-fresh m r e = record { awake = unfold powerUp in (woke .0); felt = unfold powerUp in (woke .1); right = up-right prims map m r }
     where
       Q : Waking → Type 0
-      Q w = (isReady (wokenSession prims map w (m .lent) .phase) ≡ true)
-          × ((n : ℕ) → Digested map n → sensedAt (wokenSession prims map w (m .lent)) n ≡ storedDigest (partition map n) (m .lent .cells))
+      Q w = (isReady (wokenSession map w (m .lent) .phase) ≡ true)
+          × ((n : ℕ) → Digested map n → sensedAt (wokenSession map w (m .lent)) n ≡ storedDigest (partition map n) (m .lent .cells))
 
       woke : Q (waking prims map (m .lent))
       woke = up-wakes m Q (woke-fresh m) e

@@ -32,7 +32,7 @@ use Rattle.model.proofs.Transitions.{Ends, entry-gives}
 
 -- what an act came to that left the cells and turned nothing
 pub same-machine : (prims : Primitives) (map : Map) (m : Machine) (r : Performed) → r .cells ≡ m .lent .cells → r .turn ≡ stay
-    → performed prims map r m .result .machine ≡ m
+    → performed r m .result .machine ≡ m
 unfolding performed turned
 same-machine prims map m r e f = rw (e, f) refl
 
@@ -98,12 +98,12 @@ module _ (prims : Primitives) (map : Map) (m : Machine) where
 -- ---- power-up
 
 module _ (prims : Primitives) (map : Map) where
-  woken-code : (v : Option ℕ) (life : LifeCycle) → judged (codeOf (wokenAnswer prims map (wakingOf v life))) ≡ false
+  woken-code : (v : Option ℕ) (life : LifeCycle) → judged (codeOf (wokenAnswer (wakingOf v life))) ≡ false
   unfolding wokenAnswer wakingOf lifeCycleWaking
   woken-code (some number) life = refl
   woken-code none Invalid = refl
   woken-code none (Valid state count) =
-      if-both (λ (w : Waking). judged (codeOf (wokenAnswer prims map w)) ≡ false) (eqb state 20) _ _ (λ e. refl) (λ e. refl)
+      if-both (λ (w : Waking). judged (codeOf (wokenAnswer w)) ≡ false) (eqb state 20) _ _ (λ e. refl) (λ e. refl)
 
   pub power-ups-refuse : (m : Machine)
       → (machineAfter prims map PowerUp m .lent .cells ≡ m .lent .cells)
@@ -112,7 +112,7 @@ module _ (prims : Primitives) (map : Map) where
   power-ups-refuse m =
       let Q : Step → Type 0 = λ s. (s .result .machine .lent .cells ≡ m .lent .cells) × (judged (codeOf (s .result .answer)) ≡ true → s .result .machine ≡ m) in
       if-both Q _ _ _ (λ e. (refl, λ j. refl)) λ e. if-both Q _ _ _ (λ e. (refl, λ j. refl))
-      λ e. (refl, λ j. absurd (true-not-false j (woken-code (verdictOf prims map (m .lent)) (lifeCycleIn prims map (m .lent)))))
+      λ e. (refl, λ j. absurd (true-not-false j (woken-code (verdictOf prims map (m .lent)) (lifeCycleIn map (m .lent)))))
 
 -- ---- transition
 

@@ -52,7 +52,7 @@ use Rattle.model.proofs.Locks.{turned-ready}
 
 -- the cells hold the record's state and count
 abbrev Alive : Primitives → Map → Machine → Type 0
-Alive prims map m = lifeCycleIn prims map (m .lent) ≡ Valid (m .session .state) (m .session .count)
+Alive prims map m = lifeCycleIn map (m .lent) ≡ Valid (m .session .state) (m .session .count)
 
 -- they do while the phase is Ready
 pub record Living (prims : Primitives) (map : Map) (m : Machine) : Type 0 where
@@ -77,12 +77,12 @@ turned-life die s = (refl, refl)
 pub data Moved (prims : Primitives) (map : Map) (m : Machine) (target : ℕ) (r : Performed) : Type 0 where
   still : r .cells ≡ m .lent .cells → (codeOf (r .answer) ≡ 0x04 → ⊥) → Moved prims map m target r
   spent : Alive prims map m → m .session .count < 24
-      → r .cells ≡ programCells (m .lent .cells) (counterAt prims map) (counterWords (m .lent .constants) (suc (m .session .count)))
+      → r .cells ≡ programCells (m .lent .cells) (counterAt map) (counterWords (m .lent .constants) (suc (m .session .count)))
       → stops (r .turn) → (codeOf (r .answer) ≡ 0x04 → ⊥) → Moved prims map m target r
   reached : {token : Token} → Alive prims map m → m .session .count < 24
       → transition (m .session .state) target ≡ Allowed token
-      → r .cells ≡ programCells (programCells (m .lent .cells) (counterAt prims map) (counterWords (m .lent .constants) (suc (m .session .count))))
-      (stateAt prims map) (stateWords (m .lent .constants) target)
+      → r .cells ≡ programCells (programCells (m .lent .cells) (counterAt map) (counterWords (m .lent .constants) (suc (m .session .count))))
+      (stateAt map) (stateWords (m .lent .constants) target)
       → stops (r .turn) → (codeOf (r .answer) ≡ 0x04 → ⊥) → Moved prims map m target r
 
 noted : (prims : Primitives) (map : Map) (m : Machine) (target : ℕ) (b : Bool) (r : Performed) → Moved prims map m target r
@@ -102,26 +102,26 @@ module _ (prims : Primitives) (map : Map) (F : fit map ≡ true) (m : Machine) (
 
   -- the cells once a stroke is spent
   abbrev cells₁ : List ℕ
-  cells₁ = programCells (m .lent .cells) (counterAt prims map) counter
+  cells₁ = programCells (m .lent .cells) (counterAt map) counter
 
-  says : (partAt (m .lent .cells) (counterAt prims map) 24 ≡ counterWords k (m .session .count)) × (partAt (m .lent .cells) (stateAt prims map) 20 ≡ stateWords k (m .session .state))
+  says : (partAt (m .lent .cells) (counterAt map) 24 ≡ counterWords k (m .session .count)) × (partAt (m .lent .cells) (stateAt map) 20 ≡ stateWords k (m .session .state))
   unfolding lifeCycleIn
   says = let d = decoded-says k _ _ _ _ live in (d .0, d .1)
 
-  stroke-fits : programAnswer (m .lent .cells) (counterAt prims map) counter ≡ programmed.Done
-  stroke-fits = stroke-done k (r .valid) (m .lent .cells) (counterAt prims map) (m .session .count) (says .0)
+  stroke-fits : programAnswer (m .lent .cells) (counterAt map) counter ≡ programmed.Done
+  stroke-fits = stroke-done k (r .valid) (m .lent .cells) (counterAt map) (m .session .count) (says .0)
 
   -- spending a stroke leaves the state words
-  state-stays : partAt cells₁ (stateAt prims map) 20 ≡ stateWords k (m .session .state)
+  state-stays : partAt cells₁ (stateAt map) 20 ≡ stateWords k (m .session .state)
   unfolding stateAt
   state-stays =
       let short = counter-length k (suc (m .session .count)) in
-      part-same cells₁ (m .lent .cells) _ 20 (λ j l u. program-elsewhere (m .lent .cells) counter (counterAt prims map) j (λ a b. omega (arith, short)))
+      part-same cells₁ (m .lent .cells) _ 20 (λ j l u. program-elsewhere (m .lent .cells) counter (counterAt map) j (λ a b. omega (arith, short)))
       ∙ says .1
 
   move-fits : (target : ℕ) {token : Token} → transition (m .session .state) target ≡ Allowed token
-      → programAnswer cells₁ (stateAt prims map) (stateWords k target) ≡ programmed.Done
-  move-fits target a = transition-done k (r .valid) cells₁ (stateAt prims map) (m .session .state) target state-stays a
+      → programAnswer cells₁ (stateAt map) (stateWords k target) ≡ programmed.Done
+  move-fits target a = transition-done k (r .valid) cells₁ (stateAt map) (m .session .state) target state-stays a
 
   module _ (target : ℕ) where
     abbrev Ok : Performed → Type 0
@@ -161,7 +161,7 @@ module _ (prims : Primitives) (map : Map) (F : fit map ≡ true) (m : Machine) (
     entry-ok Forbidden given a = said NotInTable refl
     entry-ok (Allowed token) given a = token-ok token given a
 
-    spend-ok : (given : ℕ) → Ok (perform (program (counterAt prims map) counter die (entryAct prims map m (transition (m .session .state) target) target given)) (m .lent .copy) (m .lent .cells))
+    spend-ok : (given : ℕ) → Ok (perform (program (counterAt map) counter die (entryAct prims map m (transition (m .session .state) target) target given)) (m .lent .copy) (m .lent .cells))
     unfolding perform afterProgram
     spend-ok given = rw stroke-fits (entry-ok (transition (m .session .state) target) given refl)
 
@@ -179,32 +179,32 @@ module _ (prims : Primitives) (map : Map) (F : fit map ≡ true) where
 
   -- ---- from power-up on the record is living
 
-  woken-living : (verdict : Option ℕ) (life : LifeCycle) (l : Lent) → isReady (wokenSession prims map (wakingOf verdict life) l .phase) ≡ true
-      → life ≡ Valid (wokenSession prims map (wakingOf verdict life) l .state) (wokenSession prims map (wakingOf verdict life) l .count)
+  woken-living : (verdict : Option ℕ) (life : LifeCycle) (l : Lent) → isReady (wokenSession map (wakingOf verdict life) l .phase) ≡ true
+      → life ≡ Valid (wokenSession map (wakingOf verdict life) l .state) (wokenSession map (wakingOf verdict life) l .count)
   unfolding wakingOf lifeCycleWaking wokenSession isReady
   woken-living (some number) life l = λ e. absurd (true-not-false e refl)
   woken-living none Invalid l = λ e. absurd (true-not-false e refl)
   woken-living none (Valid state count) l =
       if-both
-      (λ (w : Waking). let s = wokenSession prims map w l in isReady (s .phase) ≡ true → Valid state count ≡ Valid (s .state) (s .count)) _ _ _ (λ t e. absurd (true-not-false e refl)) (λ t e. refl)
+      (λ (w : Waking). let s = wokenSession map w l in isReady (s .phase) ≡ true → Valid state count ≡ Valid (s .state) (s .count)) _ _ _ (λ t e. absurd (true-not-false e refl)) (λ t e. refl)
 
-  up-life : (m : Machine) → lifeCycleIn prims map (poweredUp prims map m .lent) ≡ lifeCycleIn prims map (m .lent)
+  up-life : (m : Machine) → lifeCycleIn map (poweredUp prims map m .lent) ≡ lifeCycleIn map (m .lent)
   unfolding powerUp
   up-life m = life-same prims map F (m .lent .cells) (m .lent .cells) _ (m .lent .copy) (m .lent .constants) (λ j l u. refl)
 
   up-living : (m : Machine) → Living prims map (poweredUp prims map m)
   up-living m =
       let l = m .lent in
-      record { holds = λ e. up-life m ∙ (unfold powerUp waking in (woken-living (verdictOf prims map l) (lifeCycleIn prims map l) l e)) }
+      record { holds = λ e. up-life m ∙ (unfold powerUp waking in (woken-living (verdictOf prims map l) (lifeCycleIn map l) l e)) }
 
   -- a command that is no transition leaves the life cycle words
-  others-life : (x : Command) (m : Machine) → isTransition x ≡ false → lifeCycleIn prims map (acted prims map x m .lent) ≡ lifeCycleIn prims map (m .lent)
+  others-life : (x : Command) (m : Machine) → isTransition x ≡ false → lifeCycleIn map (acted prims map x m .lent) ≡ lifeCycleIn map (m .lent)
   unfolding act performed
   others-life x m n =
       life-same prims map F _ (m .lent .cells) _ _ (m .lent .constants)
       (λ j lo hi. perform-frame (act-within prims map F m x) (m .lent .copy) (m .lent .cells) j (shut j lo hi))
     where
-      shut : (j : ℕ) → counterAt prims map ≤ j → j < counterAt prims map + 44 → Open map x (m .session) j → ⊥
+      shut : (j : ℕ) → counterAt map ≤ j → j < counterAt map + 44 → Open map x (m .session) j → ⊥
       shut j lo hi (unlocked r d z aim) = true-not-false d (life-closed prims map F j (life-words prims map F j lo hi))
       shut j lo hi (lifeCycle r t e) = true-not-false t n
 
@@ -221,7 +221,7 @@ module _ (prims : Primitives) (map : Map) (F : fit map ≡ true) where
     abbrev c₁ : List ℕ
     c₁ = cells₁ prims map F m r live room
 
-    life-inside : counterAt prims map + 44 ≤ length (m .lent .cells)
+    life-inside : counterAt map + 44 ≤ length (m .lent .cells)
     unfolding counterAt
     life-inside =
         let n = numberOfKind map kind.LifeCycle in
@@ -230,21 +230,21 @@ module _ (prims : Primitives) (map : Map) (F : fit map ≡ true) where
         let f = partition-fit map F known in
         omega (arith, cells-length prims map m r, p .words, p .last)
 
-    counter-held : partAt c₁ (counterAt prims map) 24 ≡ strokes
+    counter-held : partAt c₁ (counterAt map) 24 ≡ strokes
     counter-held =
-        let inside : counterAt prims map + length strokes ≤ length (m .lent .cells) = rw counter-length (omega (arith, life-inside)) in
-        rw counter-length at (program-takes (m .lent .cells) strokes (counterAt prims map) inside (stroke-fits prims map F m r live room))
+        let inside : counterAt map + length strokes ≤ length (m .lent .cells) = rw counter-length (omega (arith, life-inside)) in
+        rw counter-length at (program-takes (m .lent .cells) strokes (counterAt map) inside (stroke-fits prims map F m r live room))
 
     -- what these words decode to
-    decodes : (cells copy : List ℕ) (state : ℕ) → state ≤ 20 → partAt cells (counterAt prims map) 24 ≡ strokes
-        → partAt cells (stateAt prims map) 20 ≡ stateWords t state
-        → lifeCycleIn prims map (record { cells = cells; copy = copy; constants = t }) ≡ Valid state (suc (m .session .count))
+    decodes : (cells copy : List ℕ) (state : ℕ) → state ≤ 20 → partAt cells (counterAt map) 24 ≡ strokes
+        → partAt cells (stateAt map) 20 ≡ stateWords t state
+        → lifeCycleIn map (record { cells = cells; copy = copy; constants = t }) ≡ Valid state (suc (m .session .count))
     unfolding lifeCycleIn
     decodes cells copy state l e f =
         ap₂ (λ (x y : List ℕ). decoded t x y) e f
         ∙ decoded-valid t (record { small = r .words }) (r .valid) state (suc (m .session .count)) l room (λ z. absurd (omega arith))
 
-    spent-life : (copy : List ℕ) → lifeCycleIn prims map (record { cells = c₁; copy = copy; constants = t }) ≡ Valid (m .session .state) (suc (m .session .count))
+    spent-life : (copy : List ℕ) → lifeCycleIn map (record { cells = c₁; copy = copy; constants = t }) ≡ Valid (m .session .state) (suc (m .session .count))
     spent-life copy = decodes c₁ copy (m .session .state) known counter-held (state-stays prims map F m r live room)
       where
         known : m .session .state ≤ 20
@@ -255,38 +255,38 @@ module _ (prims : Primitives) (map : Map) (F : fit map ≡ true) where
       ws = stateWords t target
 
       abbrev c₂ : List ℕ
-      c₂ = programCells c₁ (stateAt prims map) ws
+      c₂ = programCells c₁ (stateAt map) ws
 
-      counter-still : partAt c₂ (counterAt prims map) 24 ≡ strokes
+      counter-still : partAt c₂ (counterAt map) 24 ≡ strokes
       unfolding stateAt
-      counter-still = part-same _ c₁ _ 24 (λ j lo hi. program-elsewhere c₁ ws (stateAt prims map) j (λ from upto. omega arith)) ∙ counter-held
+      counter-still = part-same _ c₁ _ 24 (λ j lo hi. program-elsewhere c₁ ws (stateAt map) j (λ from upto. omega arith)) ∙ counter-held
 
-      state-held : partAt c₂ (stateAt prims map) 20 ≡ ws
+      state-held : partAt c₂ (stateAt map) 20 ≡ ws
       unfolding stateAt
       state-held =
-          let same = program-length (m .lent .cells) strokes (counterAt prims map) in
-          let inside : stateAt prims map + length ws ≤ length c₁ = rw state-length (omega (arith, life-inside, same)) in
-          rw state-length at (program-takes c₁ ws (stateAt prims map) inside (move-fits prims map F m r live room target a))
+          let same = program-length (m .lent .cells) strokes (counterAt map) in
+          let inside : stateAt map + length ws ≤ length c₁ = rw state-length (omega (arith, life-inside, same)) in
+          rw state-length at (program-takes c₁ ws (stateAt map) inside (move-fits prims map F m r live room target a))
 
-      moved-life : (copy : List ℕ) → lifeCycleIn prims map (record { cells = c₂; copy = copy; constants = t }) ≡ Valid target (suc (m .session .count))
+      moved-life : (copy : List ℕ) → lifeCycleIn map (record { cells = c₂; copy = copy; constants = t }) ≡ Valid target (suc (m .session .count))
       moved-life copy = decodes c₂ copy target (allowed-ends (m .session .state) target a .within) counter-still state-held
 
   -- what one command makes of a living machine
   pub record Goes (m : Machine) (s : Step) : Type 0 where
-    pub course : Course (lifeCycleIn prims map (m .lent)) (lifeCycleIn prims map (s .result .machine .lent))
+    pub course : Course (lifeCycleIn map (m .lent)) (lifeCycleIn map (s .result .machine .lent))
     pub living : Living prims map (s .result .machine)
 
-  same-goes : (m : Machine) (s : Step) → lifeCycleIn prims map (s .result .machine .lent) ≡ lifeCycleIn prims map (m .lent)
+  same-goes : (m : Machine) (s : Step) → lifeCycleIn map (s .result .machine .lent) ≡ lifeCycleIn map (m .lent)
       → Living prims map (s .result .machine) → Goes m s
   same-goes m s e l = record { course = rw e stays; living = l }
 
   -- an act that leaves the life cycle words
-  act-stays : (x : Command) (m : Machine) → Living prims map m → lifeCycleIn prims map (acted prims map x m .lent) ≡ lifeCycleIn prims map (m .lent)
+  act-stays : (x : Command) (m : Machine) → Living prims map m → lifeCycleIn map (acted prims map x m .lent) ≡ lifeCycleIn map (m .lent)
       → Goes m (act prims map x m)
   act-stays x m live same = same-goes m (act prims map x m) same (record { holds = λ e. same ∙ kept e })
     where
       kept : isReady (acted prims map x m .session .phase) ≡ true
-          → lifeCycleIn prims map (m .lent) ≡ Valid (acted prims map x m .session .state) (acted prims map x m .session .count)
+          → lifeCycleIn map (m .lent) ≡ Valid (acted prims map x m .session .state) (acted prims map x m .session .count)
       kept = unfold act performed in (λ e. rw (turned-life _ _ .0, turned-life _ _ .1) (live .holds (turned-ready _ (m .session) e)))
 
   others-go : (x : Command) (m : Machine) → isTransition x ≡ false → Living prims map m → Goes m (act prims map x m)
@@ -309,12 +309,12 @@ module _ (prims : Primitives) (map : Map) (F : fit map ≡ true) where
       lent-is c e = unfold act performed in (rw e)
 
       go : Moved prims map m target outcome → Goes m (act prims map x m)
-      go (still e f) = act-stays x m live (ap (lifeCycleIn prims map) (lent-is (m .lent .cells) e))
+      go (still e f) = act-stays x m live (ap (lifeCycleIn map) (lent-is (m .lent .cells) e))
       go (spent v l e h f) =
-          let q = ap (lifeCycleIn prims map) (lent-is _ e) ∙ spent-life m r v l (m .lent .copy) in
+          let q = ap (lifeCycleIn map) (lent-is _ e) ∙ spent-life m r v l (m .lent .copy) in
           record { course = rw (q, v) (spends stays); living = stopped h }
       go (reached v l a e h f) =
-          let q = ap (lifeCycleIn prims map) (lent-is _ e) ∙ moved-life m r v l target a (m .lent .copy) in
+          let q = ap (lifeCycleIn map) (lent-is _ e) ∙ moved-life m r v l target a (m .lent .copy) in
           record { course = rw (q, v) (moves stays a); living = stopped h }
 
   act-goes : (x : Command) (m : Machine) → Right map m → Living prims map m → Goes m (act prims map x m)
@@ -342,7 +342,7 @@ module _ (prims : Primitives) (map : Map) (F : fit map ≡ true) where
   course-trans f (moves g a) = moves (course-trans f g) a
 
   pub after-goes : (l : List Command) (m : Machine) → Right map m → Living prims map m
-      → Course (lifeCycleIn prims map (m .lent)) (lifeCycleIn prims map (after prims map l m .lent)) × Living prims map (after prims map l m)
+      → Course (lifeCycleIn map (m .lent)) (lifeCycleIn map (after prims map l m .lent)) × Living prims map (after prims map l m)
   unfolding after
   after-goes [] m r live = (stays, live)
   after-goes (x ∷ l) m r live =
@@ -376,7 +376,7 @@ module _ (prims : Primitives) (map : Map) (F : fit map ≡ true) where
       living-not-four (after prims map (PowerUp ∷ l) m) (after-right prims map (PowerUp ∷ l) m r) (since-living m r l) target high low
 
   pub courses-run : (m : Machine) → Right map m → (l₁ l₂ : List Command)
-      → Course (lifeCycleIn prims map (after prims map (PowerUp ∷ l₁) m .lent)) (lifeCycleIn prims map (after prims map (PowerUp ∷ l₁ ++ l₂) m .lent))
+      → Course (lifeCycleIn map (after prims map (PowerUp ∷ l₁) m .lent)) (lifeCycleIn map (after prims map (PowerUp ∷ l₁ ++ l₂) m .lent))
   courses-run m r l₁ l₂ =
       let m₁ = after prims map (PowerUp ∷ l₁) m in
       rw (after-append prims map (PowerUp ∷ l₁) l₂ m) (after-goes l₂ m₁ (after-right prims map (PowerUp ∷ l₁) m r) (since-living m r l₁) .0)

@@ -56,7 +56,7 @@ module _ (prims : Primitives) (C : Cipher prims) (map : Map) (F : fit map ≡ tr
 
   -- what is read of the words that a write stored
   read-stored : (constants : List ℕ) → ((i : ℕ) → getD constants i 0 < 65536) → (a value : ℕ) → a < limit map → value < 2 ^ 64
-      → unscrambled prims map constants (partitionAt map a) (numberOf (storedWords prims map constants a value)) ≡ usedValue map a value
+      → unscrambled prims constants (partitionAt map a) (numberOf (storedWords prims map constants a value)) ≡ usedValue map a value
   unfolding unscrambled scrambled
   read-stored constants h a value l v =
       let p = partitionAt map a in
@@ -220,9 +220,9 @@ module _ (prims : Primitives) (C : Cipher prims) (map : Map) (F : fit map ≡ tr
         unfolding granule
         granule-is = ap numberOf (ap₂ (λ (i n : ℕ). partAt (m .lent .cells) i n) (one .first) (one .count) ∙ held)
 
-        data-is : unscrambled prims map (m .lent .constants) p (granule p (m .lent .cells) b) ≡ usedValue map a value
+        data-is : unscrambled prims (m .lent .constants) p (granule p (m .lent .cells) b) ≡ usedValue map a value
         data-is =
-            ap₂ (λ (p : Partition) (x : ℕ). unscrambled prims map (m .lent .constants) p x) same-partition granule-is
+            ap₂ (λ (p : Partition) (x : ℕ). unscrambled prims (m .lent .constants) p x) same-partition granule-is
             ∙ read-stored (m .lent .constants) (r .words) a value below v
 
         -- a digest that direct access may write is stored plain
@@ -233,7 +233,7 @@ module _ (prims : Primitives) (C : Cipher prims) (map : Map) (F : fit map ≡ tr
             soft = rw same-partition (not-passed _ (λ h. true-not-false (and-both _ _ h (sym same-side ∙ t)) open?))
 
             plain : rightsOf (p .kind) .scrambled ≡ false
-                → unscrambled prims map (m .lent .constants) p (granule p (m .lent .cells) b) ≡ granule p (m .lent .cells) b
+                → unscrambled prims (m .lent .constants) p (granule p (m .lent .cells) b) ≡ granule p (m .lent .cells) b
             plain q = unfold unscrambled in (if-false _ _ q)
 
         -- on a chip that is Ready since a power-up that found the partition open, a read answers 0 and the data used

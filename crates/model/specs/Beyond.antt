@@ -61,7 +61,7 @@ module _ (prims : Primitives) (map : Map) where
         → value ≡ granule (partition map n) (after prims map l₁ m .lent .cells) a
     -- from a power-up on, what the life cycle words decode to only goes along the table, a stroke at a time
     pub courses : (m : Machine) → Right map m → (l₁ l₂ : List Command)
-        → Course (lifeCycleIn prims map (after prims map (PowerUp ∷ l₁) m .lent)) (lifeCycleIn prims map (after prims map (PowerUp ∷ l₁ ++ l₂) m .lent))
+        → Course (lifeCycleIn map (after prims map (PowerUp ∷ l₁) m .lent)) (lifeCycleIn map (after prims map (PowerUp ∷ l₁ ++ l₂) m .lent))
     -- a list without power-up and transition leaves the copy and the sensed digests as they were
     pub sensing : (m : Machine) (l : List Command) → Quiet l
         → (after prims map l m .lent .copy ≡ m .lent .copy) × (after prims map l m .session .sensed ≡ m .session .sensed)

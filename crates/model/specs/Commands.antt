@@ -52,7 +52,7 @@ tokenOffset TestUnlock = 0
 tokenOffset TestExit = 8
 tokenOffset Rma = 0
 
-module _ (prims : Primitives) (map : Map) where
+module _ (prims : Primitives) where
   -- "Secret data is scrambled, then programmed." "Secret data is unscrambled, a blank block too."
   unfoldable pub scrambled : List ℕ → Partition → ℕ → ℕ
   scrambled constants p x = if rightsOf (p .kind) .scrambled then prims .encrypt (keyOf constants (p .kind)) x else x
@@ -64,6 +64,7 @@ module _ (prims : Primitives) (map : Map) where
   unfoldable pub computedDigest : List ℕ → Partition → List ℕ → ℕ
   computedDigest constants p cells = prims .digest (digestStart constants) (digestFinal constants) (dataWords p cells)
 
+module _ (map : Map) where
   -- where the life cycle's 24 counter words start; its 20 state words follow
   unfoldable pub counterAt : ℕ
   counterAt = partition map (numberOfKind map kind.LifeCycle) .start / 2
@@ -75,102 +76,102 @@ module _ (prims : Primitives) (map : Map) where
   unfoldable pub tokenSame : Token → ℕ → List ℕ → Bool
   tokenSame token given copy = eqb (numberOf (partAt copy (partition map (numberOfKind map (tokenKind token)) .start / 2 + tokenOffset token) 8)) given
 
-  module _ (m : Machine) where
-    abbrev session : Session
-    session = m .session
+module _ (prims : Primitives) (map : Map) (m : Machine) where
+  abbrev session : Session
+  session = m .session
 
-    abbrev constants : List ℕ
-    constants = m .lent .constants
+  abbrev constants : List ℕ
+  constants = m .lent .constants
 
-    -- "5 if the address is 0x380 or more, in LIFE_CYCLE, in the digest of 2 to 5, or in a partition with a nonzero sensed digest."
-    unfoldable pub writeAct : ℕ → ℕ → Act
-    writeAct a value =
-        let p = partitionAt map a in
-        if leb (limit map) a then refuse Denied
-        else if not (rightsOf (p .kind) .direct) then refuse Denied
-        else if rightsOf (p .kind) .hardware && inDigest p a then refuse Denied
-        else if sensedLocked session (numberAt map a) then refuse Denied
-        else program (firstWord p a) (wordsOf (wordCount p a) (scrambled constants p value)) stay (say (Done 0) stay)
+  -- "5 if the address is 0x380 or more, in LIFE_CYCLE, in the digest of 2 to 5, or in a partition with a nonzero sensed digest."
+  unfoldable pub writeAct : ℕ → ℕ → Act
+  writeAct a value =
+      let p = partitionAt map a in
+      if leb (limit map) a then refuse Denied
+      else if not (rightsOf (p .kind) .direct) then refuse Denied
+      else if rightsOf (p .kind) .hardware && inDigest p a then refuse Denied
+      else if sensedLocked session (numberAt map a) then refuse Denied
+      else program (firstWord p a) (wordsOf (wordCount p a) (scrambled prims constants p value)) stay (say (Done 0) stay)
 
-    -- "5 if the address is 0x380 or more or in LIFE_CYCLE; for data, not digests, also if the partition is read-locked or is secret with a
-    -- nonzero sensed digest. Digests are always readable, plain. .. Reads look at cells"
-    unfoldable pub readAct : ℕ → Act
-    readAct a =
-        let p = partitionAt map a in
-        if leb (limit map) a then refuse Denied
-        else if not (rightsOf (p .kind) .direct) then refuse Denied
-        else if inDigest p a then say (Done (granule p (m .lent .cells) a)) stay
-        else if readLocked session (numberAt map a) then refuse Denied
-        else if rightsOf (p .kind) .scrambled && sensedLocked session (numberAt map a) then refuse Denied
-        else say (Done (unscrambled constants p (granule p (m .lent .cells) a))) stay
+  -- "5 if the address is 0x380 or more or in LIFE_CYCLE; for data, not digests, also if the partition is read-locked or is secret with a
+  -- nonzero sensed digest. Digests are always readable, plain. .. Reads look at cells"
+  unfoldable pub readAct : ℕ → Act
+  readAct a =
+      let p = partitionAt map a in
+      if leb (limit map) a then refuse Denied
+      else if not (rightsOf (p .kind) .direct) then refuse Denied
+      else if inDigest p a then say (Done (granule p (m .lent .cells) a)) stay
+      else if readLocked session (numberAt map a) then refuse Denied
+      else if rightsOf (p .kind) .scrambled && sensedLocked session (numberAt map a) then refuse Denied
+      else say (Done (unscrambled prims constants p (granule p (m .lent .cells) a))) stay
 
-    -- "HW_CFG data from the sensed copy; any other address 5."
-    unfoldable pub frontReadAct : ℕ → Act
-    frontReadAct a =
-        let p = partitionAt map a in
-        if leb (limit map) a then refuse Denied
-        else if not (rightsOf (p .kind) .front) then refuse Denied
-        else if inDigest p a then refuse Denied
-        else say (Done (granule p (m .lent .copy) a)) stay
+  -- "5 unless the address is exactly the start of 2, 3, 4 or 5 and its sensed digest is zero. Computes over the stored data words, programs
+  -- the digest location, answers the digest."
+  unfoldable pub digestAct : ℕ → Act
+  digestAct a =
+      let p = partitionAt map a in
+      let digest = computedDigest prims constants p (m .lent .cells) in
+      if leb (limit map) a then refuse Denied
+      else if not (rightsOf (p .kind) .hardware) then refuse Denied
+      else if not (eqb a (p .start)) then refuse Denied
+      else if sensedLocked session (numberAt map a) then refuse Denied
+      else program (p .digest / 2) (wordsOf 4 digest) stay (say (Done digest) stay)
 
-    -- "5 unless the address is exactly the start of 2, 3, 4 or 5 and its sensed digest is zero. Computes over the stored data words, programs
-    -- the digest location, answers the digest."
-    unfoldable pub digestAct : ℕ → Act
-    digestAct a =
-        let p = partitionAt map a in
-        let digest = computedDigest constants p (m .lent .cells) in
-        if leb (limit map) a then refuse Denied
-        else if not (rightsOf (p .kind) .hardware) then refuse Denied
-        else if not (eqb a (p .start)) then refuse Denied
-        else if sensedLocked session (numberAt map a) then refuse Denied
-        else program (p .digest / 2) (wordsOf 4 digest) stay (say (Done digest) stay)
+  -- "5 unless 0 or 1. Lasts until power-up; locking again answers 0." (0 and 1 are the partitions with a read lock)
+  unfoldable pub readLockAct : ℕ → Act
+  readLockAct number = if not (rightsOf (partition map number .kind) .lockable) then refuse Denied else say (Done 0) (lock number)
 
-    -- "5 unless 0 or 1. Lasts until power-up; locking again answers 0." (0 and 1 are the partitions with a read lock)
-    unfoldable pub readLockAct : ℕ → Act
-    readLockAct number = if not (rightsOf (partition map number .kind) .lockable) then refuse Denied else say (Done 0) (lock number)
+  -- "HW_CFG data from the sensed copy; any other address 5."
+  unfoldable pub frontReadAct : ℕ → Act
+  frontReadAct a =
+      let p = partitionAt map a in
+      if leb (limit map) a then refuse Denied
+      else if not (rightsOf (p .kind) .front) then refuse Denied
+      else if inDigest p a then refuse Denied
+      else say (Done (granule p (m .lent .copy) a)) stay
 
-    -- "then the 20 state words are programmed"
-    unfoldable pub moveAct : ℕ → Act
-    moveAct target = program stateAt (stateWords constants target) die (say (Done 0) halt)
+  -- "then the 20 state words are programmed"
+  unfoldable pub moveAct : ℕ → Act
+  moveAct target = program (stateAt map) (stateWords constants target) die (say (Done 0) halt)
 
-    -- "0x22; 0x23": the token's partition is not sensed locked, the token differs
-    unfoldable pub lockedTokenAct : Token → ℕ → ℕ → Act
-    lockedTokenAct token target given =
-        if not (sensedLocked session (numberOfKind map (tokenKind token))) then say TokenNotLocked halt
-        else compare (tokenSame token given) (moveAct target) (say TokenDiffers halt)
+  -- "0x22; 0x23": the token's partition is not sensed locked, the token differs
+  unfoldable pub lockedTokenAct : Token → ℕ → ℕ → Act
+  lockedTokenAct token target given =
+      if not (sensedLocked session (numberOfKind map (tokenKind token))) then say TokenNotLocked halt
+      else compare (tokenSame map token given) (moveAct target) (say TokenDiffers halt)
 
-    -- "With none, the token is ignored and 0x22, 0x23 aren't given; the RAW token needs no lock."
-    unfoldable pub tokenAct : Token → ℕ → ℕ → Act
-    tokenAct Nothing target given = moveAct target
-    tokenAct RawUnlock target given = compare (λ copy. eqb (rawToken constants) given) (moveAct target) (say TokenDiffers halt)
-    tokenAct TestUnlock target given = lockedTokenAct TestUnlock target given
-    tokenAct TestExit target given = lockedTokenAct TestExit target given
-    tokenAct Rma target given = lockedTokenAct Rma target given
+  -- "With none, the token is ignored and 0x22, 0x23 aren't given; the RAW token needs no lock."
+  unfoldable pub tokenAct : Token → ℕ → ℕ → Act
+  tokenAct Nothing target given = moveAct target
+  tokenAct RawUnlock target given = compare (λ copy. eqb (rawToken constants) given) (moveAct target) (say TokenDiffers halt)
+  tokenAct TestUnlock target given = lockedTokenAct TestUnlock target given
+  tokenAct TestExit target given = lockedTokenAct TestExit target given
+  tokenAct Rma target given = lockedTokenAct Rma target given
 
-    -- "then 0x21": the transition is not in the table
-    unfoldable pub entryAct : Entry → ℕ → ℕ → Act
-    entryAct Forbidden target given = say NotInTable halt
-    entryAct (Allowed token) target given = tokenAct token target given
+  -- "then 0x21": the transition is not in the table
+  unfoldable pub entryAct : Entry → ℕ → ℕ → Act
+  entryAct Forbidden target given = say NotInTable halt
+  entryAct (Allowed token) target given = tokenAct token target given
 
-    -- "Order: 0x20 with no cell changed; then the 24 counter words of one stroke more than the record's count are programmed; then 0x21; 0x22;
-    -- 0x23; then the 20 state words". Before them, 7 for a record's state above 20 or count above 24, and "0x11 changes nothing".
-    unfoldable pub transitionAct : ℕ → ℕ → Act
-    transitionAct target given =
-        if not (leb (session .state) 20 && leb (session .count) 24) then refuse NotReady
-        else if not (leb target 20) then refuse UnknownTarget
-        else if not (ltb (session .count) 24) then say StrokesUsed halt
-        else program counterAt (counterWords constants (suc (session .count))) die (entryAct (transition (session .state) target) target given)
+  -- "Order: 0x20 with no cell changed; then the 24 counter words of one stroke more than the record's count are programmed; then 0x21; 0x22;
+  -- 0x23; then the 20 state words". Before them, 7 for a record's state above 20 or count above 24, and "0x11 changes nothing".
+  unfoldable pub transitionAct : ℕ → ℕ → Act
+  transitionAct target given =
+      if not (leb (session .state) 20 && leb (session .count) 24) then refuse NotReady
+      else if not (leb target 20) then refuse UnknownTarget
+      else if not (ltb (session .count) 24) then say StrokesUsed halt
+      else program (counterAt map) (counterWords constants (suc (session .count))) die (entryAct (transition (session .state) target) target given)
 
-    -- Power-up is no act (`obey`, in Step.antt): its clause is never asked.
-    unfoldable pub commandAct : Command → Act
-    commandAct (Read a) = readAct a
-    commandAct (Write a value) = writeAct a value
-    commandAct (FrontRead a) = frontReadAct a
-    commandAct (Digest a) = digestAct a
-    commandAct (ReadLock number) = readLockAct number
-    commandAct (Transition target high low) = transitionAct target (high * 2 ^ 64 + low)
-    commandAct PowerUp = refuse NotReady
+  -- Power-up is no act (`obey`, in Step.antt): its clause is never asked.
+  unfoldable pub commandAct : Command → Act
+  commandAct (Read a) = readAct a
+  commandAct (Write a value) = writeAct a value
+  commandAct (FrontRead a) = frontReadAct a
+  commandAct (Digest a) = digestAct a
+  commandAct (ReadLock number) = readLockAct number
+  commandAct (Transition target high low) = transitionAct target (high * 2 ^ 64 + low)
+  commandAct PowerUp = refuse NotReady
 
-    -- "phase is not Ready (except at power-up)"
-    unfoldable pub readyAct : Command → Act
-    readyAct x = if not (isReady (session .phase)) then refuse NotReady else commandAct x
+  -- "phase is not Ready (except at power-up)"
+  unfoldable pub readyAct : Command → Act
+  readyAct x = if not (isReady (session .phase)) then refuse NotReady else commandAct x

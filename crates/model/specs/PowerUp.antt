@@ -47,23 +47,36 @@ unfoldable pub wakingOf : Option ℕ → LifeCycle → Waking
 wakingOf (some number) life = fails reason.DigestFailed (DigestFailed number)
 wakingOf none life = lifeCycleWaking life
 
-module _ (prims : Primitives) (map : Map) where
+module _ (prims : Primitives) where
   -- "Partitions 2 to 5 ..: a nonzero stored digest must equal the one recomputed" (2 to 5 are those with a hardware digest)
   unfoldable pub digestHolds : List ℕ → List ℕ → Partition → Bool
   digestHolds constants cells p =
-      not (rightsOf (p .kind) .hardware) || eqb (storedDigest p cells) 0 || eqb (storedDigest p cells) (computedDigest prims map constants p cells)
+      not (rightsOf (p .kind) .hardware) || eqb (storedDigest p cells) 0 || eqb (storedDigest p cells) (computedDigest prims constants p cells)
 
   -- An integrity verdict: "the first partition that fails a power-up's digest check, or none", the partitions numbered from n on.
   unfoldable pub firstFailing : List ℕ → List ℕ → ℕ → Map → Option ℕ
   firstFailing constants cells n [] = none
   firstFailing constants cells n (p ∷ ps) = if digestHolds constants cells p then firstFailing constants cells (suc n) ps else some n
 
-  unfoldable pub verdictOf : Lent → Option ℕ
-  verdictOf l = firstFailing (l .constants) (l .cells) 0 map
+-- "Then state and count are decoded"
+unfoldable pub lifeCycleIn : Map → Lent → LifeCycle
+lifeCycleIn map l = decoded (l .constants) (partAt (l .cells) (counterAt map) 24) (partAt (l .cells) (stateAt map) 20)
 
-  -- "Then state and count are decoded"
-  unfoldable pub lifeCycleIn : Lent → LifeCycle
-  lifeCycleIn l = decoded (l .constants) (partAt (l .cells) (counterAt prims map) 24) (partAt (l .cells) (stateAt prims map) 20)
+-- "A 6 or 7 here sets .. sensed digests, state and count to zero" "Success: Ready; sensed digests of 0 to 5 are the stored ones". Both clear the read
+-- locks.
+unfoldable pub wokenSession : Map → Waking → Lent → Session
+wokenSession map (fails reason answer) l = record { phase = Dead reason; sensed = digests (λ p. 0) map; locks = noLocks map; state = 0; count = 0 }
+wokenSession map (wakes state count) l =
+    record { phase = Ready; sensed = digests (λ p. storedDigest p (l .cells)) map; locks = noLocks map; state = state; count = count }
+
+-- "value 256 times count plus state"
+unfoldable pub wokenAnswer : Waking → Answer
+wokenAnswer (fails reason answer) = answer
+wokenAnswer (wakes state count) = Done (256 * count + state)
+
+module _ (prims : Primitives) (map : Map) where
+  unfoldable pub verdictOf : Lent → Option ℕ
+  verdictOf l = firstFailing prims (l .constants) (l .cells) 0 map
 
   -- "the copy holds 2 to 6, secret data unscrambled, and zero for 0 and 1" (the partitions with read locks): word j, where secret data is unscrambled
   -- by granules
@@ -73,24 +86,14 @@ module _ (prims : Primitives) (map : Map) where
       let p = partitionAt map a in
       if rightsOf (p .kind) .lockable then 0
       else if rightsOf (p .kind) .scrambled && not (inDigest p a)
-      then getD (wordsOf (wordCount p a) (unscrambled prims map constants p (granule p cells a))) (j - firstWord p a) 0
+      then getD (wordsOf (wordCount p a) (unscrambled prims constants p (granule p cells a))) (j - firstWord p a) 0
       else getD cells j 0
 
-  -- "A 6 or 7 here sets the copy to all zero, and sensed digests, state and count to zero". "Success: Ready; sensed digests of 0 to 5 are the
-  -- stored ones; .. value 256 times count plus state." Both clear the read locks.
+  -- "A 6 or 7 here sets the copy to all zero"
   unfoldable pub wokenCopy : Waking → Lent → List ℕ
   wokenCopy (fails reason answer) l = listed (λ j. 0) 0 (limit map / 2)
   wokenCopy (wakes state count) l = listed (copyWord (l .constants) (l .cells)) 0 (limit map / 2)
 
-  unfoldable pub wokenSession : Waking → Lent → Session
-  wokenSession (fails reason answer) l = record { phase = Dead reason; sensed = digests (λ p. 0) map; locks = noLocks map; state = 0; count = 0 }
-  wokenSession (wakes state count) l =
-      record { phase = Ready; sensed = digests (λ p. storedDigest p (l .cells)) map; locks = noLocks map; state = state; count = count }
-
-  unfoldable pub wokenAnswer : Waking → Answer
-  wokenAnswer (fails reason answer) = answer
-  wokenAnswer (wakes state count) = Done (256 * count + state)
-
   -- how a power-up of these cells ends
   unfoldable pub waking : Lent → Waking
-  waking l = wakingOf (verdictOf l) (lifeCycleIn l)
+  waking l = wakingOf (verdictOf l) (lifeCycleIn map l)

@@ -31,22 +31,22 @@ pub record Step : Type 0 where
 unfoldable pub unchanged : Answer → Machine → Step
 unchanged answer m = record { result = record { machine = m; answer = answer }; compared = []; verdicts = [] }
 
-module _ (prims : Primitives) (map : Map) where
-  -- the cells are what the act left, the copy stays, and the record takes its turn
-  unfoldable pub performed : Performed → Machine → Step
-  performed r m =
-      record {
-        result = record {
-          machine = record {
-            lent = record { cells = r .cells; copy = m .lent .copy; constants = m .lent .constants };
-            session = turned (r .turn) (m .session);
-          };
-          answer = r .answer;
+-- the cells are what the act left, the copy stays, and the record takes its turn
+unfoldable pub performed : Performed → Machine → Step
+performed r m =
+    record {
+      result = record {
+        machine = record {
+          lent = record { cells = r .cells; copy = m .lent .copy; constants = m .lent .constants };
+          session = turned (r .turn) (m .session);
         };
-        compared = r .compared;
-        verdicts = [];
-      }
+        answer = r .answer;
+      };
+      compared = r .compared;
+      verdicts = [];
+    }
 
+module _ (prims : Primitives) (map : Map) where
   -- a command but power-up: decided, then performed
   unfoldable pub act : Command → Machine → Step
   act x m = performed (perform (readyAct prims map m x) (m .lent .copy) (m .lent .cells)) m
@@ -60,9 +60,9 @@ module _ (prims : Primitives) (map : Map) where
         result = record {
           machine = record {
             lent = record { cells = l .cells; copy = wokenCopy prims map w l; constants = l .constants };
-            session = wokenSession prims map w l;
+            session = wokenSession map w l;
           };
-          answer = wokenAnswer prims map w;
+          answer = wokenAnswer w;
         };
         compared = [];
         verdicts = verdictOf prims map l ∷ [];

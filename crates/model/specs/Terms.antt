@@ -69,7 +69,7 @@ module _ (prims : Primitives) (map : Map) where
   abbrev pub storedWords : List ℕ → ℕ → ℕ → List ℕ
   storedWords constants a value =
       let p = partitionAt map a in
-      wordsOf (wordCount p a) (scrambled prims map constants p value)
+      wordsOf (wordCount p a) (scrambled prims constants p value)
 
 abbrev pub usedValue : Map → ℕ → ℕ → ℕ
 usedValue map a value = numberOf (wordsOf (wordCount (partitionAt map a) a) value)

@@ -24,8 +24,8 @@ map1-length = refl
 
 -- ---- what the code's matches test
 
-pub in-range : (n : ℕ) {a : ℕ} → n < 7 → partition map1 n .start ≤ a → a < partition map1 n .end → n ≡ numberAt map1 a
-in-range n h l u = sym (only map1 map1-fit (rw map1-length h) l u)
+pub in-range : (n : ℕ) {a : ℕ} → (n < 7) × (partition map1 n .start ≤ a) × (a < partition map1 n .end) → n ≡ numberAt map1 a
+in-range n h = sym (only map1 map1-fit (rw map1-length (h .0)) (h .1) (h .2))
 
 pub past-end : {a : ℕ} → 0x380 ≤ a → 7 ≡ numberAt map1 a
 past-end h = sym (outside map1 map1-fit (rw map1-limit h) ∙ map1-length)

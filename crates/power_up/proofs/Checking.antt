@@ -28,31 +28,31 @@ data-within map fits h =
 module _ (prims : Primitives) (map : Map) (constants cells : List ℕ) where
   -- ---- one partition
 
-  pub none-due : (p : Partition) → rightsOf (p .kind) .hardware ≡ false → true ≡ digestHolds prims map constants cells p
+  pub none-due : (p : Partition) → rightsOf (p .kind) .hardware ≡ false → true ≡ digestHolds prims constants cells p
   unfolding digestHolds
   none-due p e = rw e
 
-  pub none-stored : (p : Partition) → rightsOf (p .kind) .hardware ≡ true → storedDigest p cells ≡ 0 → true ≡ digestHolds prims map constants cells p
+  pub none-stored : (p : Partition) → rightsOf (p .kind) .hardware ≡ true → storedDigest p cells ≡ 0 → true ≡ digestHolds prims constants cells p
   unfolding digestHolds
   none-stored p e z = rw (e, z)
 
   pub compared : (p : Partition) → rightsOf (p .kind) .hardware ≡ true → (storedDigest p cells ≡ 0 → ⊥)
-      → eqb (storedDigest p cells) (computedDigest prims map constants p cells) ≡ digestHolds prims map constants cells p
+      → eqb (storedDigest p cells) (computedDigest prims constants p cells) ≡ digestHolds prims constants cells p
   unfolding digestHolds
   compared p e z = rw (e, ne-eqb (storedDigest p cells) 0 z)
 
   -- ---- all of them
 
-  pub check-next : (n : ℕ) → n < length map → digestHolds prims map constants cells (partition map n) ≡ true
-      → firstFailing prims map constants cells n (drop n map) ≡ firstFailing prims map constants cells (suc n) (drop (suc n) map)
+  pub check-next : (n : ℕ) → n < length map → digestHolds prims constants cells (partition map n) ≡ true
+      → firstFailing prims constants cells n (drop n map) ≡ firstFailing prims constants cells (suc n) (drop (suc n) map)
   unfolding firstFailing partition
   check-next n h e = rw (drop-cons map n nowhere h) (if-true _ _ e)
 
-  pub check-stop : (n : ℕ) → n < length map → digestHolds prims map constants cells (partition map n) ≡ false
-      → firstFailing prims map constants cells n (drop n map) ≡ some n
+  pub check-stop : (n : ℕ) → n < length map → digestHolds prims constants cells (partition map n) ≡ false
+      → firstFailing prims constants cells n (drop n map) ≡ some n
   unfolding firstFailing partition
   check-stop n h e = rw (drop-cons map n nowhere h) (if-false _ _ e)
 
-  pub check-end : (n : ℕ) → length map ≤ n → firstFailing prims map constants cells n (drop n map) ≡ none
+  pub check-end : (n : ℕ) → length map ≤ n → firstFailing prims constants cells n (drop n map) ≡ none
   unfolding firstFailing
   check-end n h = rw (drop-of-length-le map {i = n} h)

@@ -68,7 +68,7 @@ module _ (prims : Primitives) (map : Map) (fits : fit map ≡ true) (constants c
     plain-word e s = sym (rw (same-partition, same-side) (if-false _ _ e ∙ if-false _ _ s))
 
     secret-word : rightsOf (here .kind) .lockable ≡ false → rightsOf (here .kind) .scrambled ≡ true → inDigest here (2 * at) ≡ false
-        → getD (wordsOf 4 (unscrambled prims map constants here (numberOf (partAt cells at 4)))) k 0 ≡ rule (at + k)
+        → getD (wordsOf 4 (unscrambled prims constants here (numberOf (partAt cells at 4)))) k 0 ≡ rule (at + k)
     unfolding copyWord granule
     secret-word e s d =
         let z : at + k - at ≡ k = omega arith in
@@ -99,7 +99,7 @@ module _ (prims : Primitives) (map : Map) (fits : fit map ≡ true) (constants c
 
   -- data are latched in the clear
   pub data-block : Words cells → rightsOf (here .kind) .lockable ≡ false → inDigest here (2 * at) ≡ false
-      → wordsOf 4 (unscrambled prims map constants here (numberOf (partAt cells at 4))) ≡ listed rule at 4
+      → wordsOf 4 (unscrambled prims constants here (numberOf (partAt cells at 4))) ≡ listed rule at 4
   unfolding unscrambled
   data-block w e d =
       by-cases (rightsOf (here .kind) .scrambled)

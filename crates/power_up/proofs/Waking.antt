@@ -40,7 +40,7 @@ unfolding listed digests partition map1 rightsOf if_then_else_
 six-digests f = refl
 
 pub life-cycle-slices : (l : Lent) → length (l .cells) ≡ 448
-    → decoded (l .constants) (take 24 (drop 404 (l .cells))) (take 20 (drop 428 (l .cells))) ≡ lifeCycleIn primitives map1 l
+    → decoded (l .constants) (take 24 (drop 404 (l .cells))) (take 20 (drop 428 (l .cells))) ≡ lifeCycleIn map1 l
 unfolding lifeCycleIn
 life-cycle-slices l e =
     rw (← counter-place primitives, ← state-place primitives)
@@ -82,10 +82,10 @@ passed-by (some k) life e = absurd (let z : _≡_ {A = ℕ} 0 1 = cc in omega ar
 
 module _ (l : Lent) where
   abbrev life : LifeCycle
-  life = lifeCycleIn primitives map1 l
+  life = lifeCycleIn map1 l
 
   abbrev verdict : Option ℕ
-  verdict = firstFailing primitives map1 (l .constants) (l .cells) 0 map1
+  verdict = firstFailing primitives (l .constants) (l .cells) 0 map1
 
   pub failed : (n : ℕ) → Failed n ≡ verdictIn verdict → waking primitives map1 l ≡ fails reason.DigestFailed (answer.DigestFailed n)
   unfolding waking verdictOf

@@ -27,8 +27,8 @@ lentOf cells copy constants = record { cells = cells; copy = copy; constants = c
 abbrev pub wokenResult : (Lent → Waking) → Lent → Result
 wokenResult w l =
     record {
-      machine = machineOf (l .cells) (wokenCopy primitives map1 (w l) l) (l .constants) (wokenSession primitives map1 (w l) l);
-      answer = wokenAnswer primitives map1 (w l);
+      machine = machineOf (l .cells) (wokenCopy primitives map1 (w l) l) (l .constants) (wokenSession map1 (w l) l);
+      answer = wokenAnswer (w l);
     }
 
 -- "A 6 or 7 here sets .. sensed digests, state and count to zero"

@@ -40,7 +40,7 @@ enum Verdict {
 // The digest of a partition's data words, as stored.
 fn computed_digest(cells: &[u16], constants: &[u16], partition: Partition) -> u64
     requires { ⌜ (partition .start ≤ partition .digest) × (partition .digest ≤ 2 * length (now cells)) ⌝ }
-    ensures { λ r. ⌜ r ≡ computedDigest primitives map1 (now (constants .entry)) partition (now (cells .entry)) ⌝ }
+    ensures { λ r. ⌜ r ≡ computedDigest primitives (now (constants .entry)) partition (now (cells .entry)) ⌝ }
 {
     let start = partition.start / 2;
     let end = partition.digest / 2;
@@ -50,7 +50,7 @@ fn computed_digest(cells: &[u16], constants: &[u16], partition: Partition) -> u6
 // A partition has no hardware digest, stores none yet, or stores the one computed.
 fn digest_holds(cells: &[u16], constants: &[u16], partition: Partition) -> bool
     requires { ⌜ (partition .start ≤ partition .digest) × (partition .digest ≤ 2 * length (now cells)) ⌝ }
-    ensures { λ r. ⌜ r ≡ digestHolds primitives map1 (now (constants .entry)) (now (cells .entry)) partition ⌝ }
+    ensures { λ r. ⌜ r ≡ digestHolds primitives (now (constants .entry)) (now (cells .entry)) partition ⌝ }
 {
     let kind = partition.kind;
     let rights = kind.rights();
@@ -67,7 +67,7 @@ fn digest_holds(cells: &[u16], constants: &[u16], partition: Partition) -> bool
 // The digest checks of the partitions in order.
 fn first_failing(cells: &[u16], constants: &[u16]) -> Verdict
     requires { ⌜ length (now cells) ≡ 448 ⌝ }
-    ensures { λ r. ⌜ r ≡ verdictIn (firstFailing primitives map1 (now (constants .entry)) (now (cells .entry)) 0 map1) ⌝ }
+    ensures { λ r. ⌜ r ≡ verdictIn (firstFailing primitives (now (constants .entry)) (now (cells .entry)) 0 map1) ⌝ }
 {
     let mut number = 0;
     while number < partitions::COUNT {
@@ -182,7 +182,7 @@ fn ready(cells: &[u16], copy: &mut [u16], constants: &[u16], state: u8, count: u
 // After the digest checks: the life cycle decides.
 fn live(cells: &[u16], copy: &mut [u16], constants: &[u16]) -> Outcome
     requires { ⌜ (length (now cells) ≡ 448) × (length (now copy) ≡ 448) ⌝ }
-    ensures { λ r. ⌜ resultOf (now (cells .entry)) (now (copy .exit)) (now (constants .entry)) r ≡ wokenResult (λ l. lifeCycleWaking (lifeCycleIn primitives map1 l)) (lentOf (now (cells .entry)) (now (copy .entry)) (now (constants .entry))) ⌝ }
+    ensures { λ r. ⌜ resultOf (now (cells .entry)) (now (copy .exit)) (now (constants .entry)) r ≡ wokenResult (λ l. lifeCycleWaking (lifeCycleIn map1 l)) (lentOf (now (cells .entry)) (now (copy .entry)) (now (constants .entry))) ⌝ }
 {
     match life_cycle::decode(constants, &cells[COUNTER..STATE], &cells[STATE..WORDS]) {
         LifeCycle::Invalid => dead(

@@ -52,11 +52,11 @@ module _ (copy k : List ℕ) (s : Session) where
 
   -- the state words are programmed
   moving : (cells : List ℕ) (m : Machine) (target : ℕ) → m .lent .constants ≡ k
-      → let at = stateAt primitives map1 in let ws = stateWords k target in
+      → let at = stateAt map1 in let ws = stateWords k target in
       comesTo (moveAct primitives map1 m target) (machineOf cells copy k s) ≡ resultOf (programCells cells at ws) copy k (movedAs s (programAnswer cells at ws))
   unfolding moveAct
   moving cells m target c =
-      let at = stateAt primitives map1 in
+      let at = stateAt map1 in
       let ws = stateWords k target in
       let n = machineOf cells copy k s in
       rw c
@@ -79,7 +79,7 @@ module _ (cells copy k : List ℕ) (s : Session) (target high low : ℕ) where
   stroke = counterWords k (suc (s .count))
 
   abbrev at : ℕ
-  at = counterAt primitives map1
+  at = counterAt map1
 
   -- what is left to decide once a stroke is left, and before that once the target is known and once the record is good
   abbrev spendAct : Act
@@ -139,6 +139,6 @@ module _ (cells copy k : List ℕ) (s : Session) (target high low : ℕ) where
         not-permitted b f o g = rw g (sym (asked (Refused b) f ∙ halted copy k s after b))
 
         pub moved : permitOf s copy k (transition (s .state) target) given ≡ Granted → (end : List ℕ) (o : Outcome)
-            → o ≡ movedAs s (programAnswer after (stateAt primitives map1) (stateWords k target))
-            → end ≡ programCells after (stateAt primitives map1) (stateWords k target) → resultOf end copy k o ≡ resultFor x m
+            → o ≡ movedAs s (programAnswer after (stateAt map1) (stateWords k target))
+            → end ≡ programCells after (stateAt map1) (stateWords k target) → resultOf end copy k o ≡ resultFor x m
         moved f end o g h = rw (g, h) (sym (asked Granted f ∙ moving copy k s after m target refl))

@@ -55,7 +55,7 @@ module _ (s : Session) (copy : List ℕ) (token : Token) (given : ℕ) where
   not-locked e = if-true _ _ (ap (λ (b : Bool). not (not b)) (eq-eqb _ 0 e))
 
   pub locked : (sensedAt s (numberOfKind map1 (tokenKind token)) ≡ 0 → ⊥)
-      → lockedPermit s copy token given ≡ comparedAs (tokenSame primitives map1 token given copy)
+      → lockedPermit s copy token given ≡ comparedAs (tokenSame map1 token given copy)
   unfolding lockedPermit sensedLocked
   locked h = if-false _ _ (ap (λ (b : Bool). not (not b)) (ne-eqb _ 0 h))
 

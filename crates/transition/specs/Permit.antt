@@ -33,7 +33,7 @@ comparedAs same = if same then Granted else Refused TokenDiffers
 unfoldable pub lockedPermit : Session → List ℕ → Token → ℕ → Permit
 lockedPermit s copy token given =
     if not (sensedLocked s (numberOfKind map1 (tokenKind token))) then Refused TokenNotLocked
-    else comparedAs (tokenSame primitives map1 token given copy)
+    else comparedAs (tokenSame map1 token given copy)
 
 unfoldable pub tokenPermit : Session → List ℕ → List ℕ → Token → ℕ → Permit
 tokenPermit s copy constants Nothing given = Granted

@@ -78,8 +78,8 @@ fn dead(session: Session, cell: usize) -> Outcome
 // Programs the counter words of one stroke more.
 fn spend(cells: &mut [u16], constants: &[u16], count: u8) -> Programmed
     requires { ⌜ count < 24 ⌝ }
-    ensures answer { λ r. ⌜ r ≡ programAnswer (now (cells .entry)) (counterAt primitives map1) (counterWords (now (constants .entry)) (suc count)) ⌝ }
-    ensures words { λ _. ⌜ now (cells .exit) ≡ programCells (now (cells .entry)) (counterAt primitives map1) (counterWords (now (constants .entry)) (suc count)) ⌝ }
+    ensures answer { λ r. ⌜ r ≡ programAnswer (now (cells .entry)) (counterAt map1) (counterWords (now (constants .entry)) (suc count)) ⌝ }
+    ensures words { λ _. ⌜ now (cells .exit) ≡ programCells (now (cells .entry)) (counterAt map1) (counterWords (now (constants .entry)) (suc count)) ⌝ }
 {
     let words = life_cycle::counter_words(constants, count + 1);
     words::program(cells, COUNTER, &words[..])
@@ -87,8 +87,8 @@ fn spend(cells: &mut [u16], constants: &[u16], count: u8) -> Programmed
 
 // Programs the state words of the target.
 fn move_to(cells: &mut [u16], constants: &[u16], session: Session, target: u8) -> Outcome
-    ensures outcome { λ r. ⌜ r ≡ movedAs session (programAnswer (now (cells .entry)) (stateAt primitives map1) (stateWords (now (constants .entry)) target)) ⌝ }
-    ensures words { λ _. ⌜ now (cells .exit) ≡ programCells (now (cells .entry)) (stateAt primitives map1) (stateWords (now (constants .entry)) target) ⌝ }
+    ensures outcome { λ r. ⌜ r ≡ movedAs session (programAnswer (now (cells .entry)) (stateAt map1) (stateWords (now (constants .entry)) target)) ⌝ }
+    ensures words { λ _. ⌜ now (cells .exit) ≡ programCells (now (cells .entry)) (stateAt map1) (stateWords (now (constants .entry)) target) ⌝ }
 {
     let words = life_cycle::state_words(constants, target);
     match words::program(cells, STATE, &words[..]) {

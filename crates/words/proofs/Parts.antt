@@ -1,4 +1,4 @@
--- Laws of parts of an array, and of what storing a value there leaves. The idea: `sets` goes word by word, so every law is an induction on the value.
+-- Laws of parts of an array, and of what storing a value there leaves. The idea: a part and `sets` go word by word, so each law is an induction on the words.
 use mathlib.Core.Path.{_≡_, refl, sym, ap, ap₂, _∙_}
 use mathlib.Core.List.{List, [], _∷_}
 use Prim.Native.Nat.{ℕ, zero, suc, _+_, _*_, _-_, _^_, _≤_, _<_}

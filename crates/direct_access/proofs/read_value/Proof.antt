@@ -28,7 +28,7 @@ returns-2 c =
     let g = c .before .before .before in
     let o = g .before .before .before .args in
     c .unscrambled .ensures
-    ∙ ap (unscrambled primitives map1 (o .constants .now) (o .partition)) (g .granule .ensures)
+    ∙ ap (unscrambled primitives (o .constants .now) (o .partition)) (g .granule .ensures)
     ∙ sym (if-false _ _ (lt-leb _ _ (c .before .if1 .left)))
 
 pub read-value-spec : {M : Type 1} → statement M

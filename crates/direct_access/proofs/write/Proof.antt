@@ -69,7 +69,7 @@ few t = let h = held _ _ _ _ _ _ _ (at-place (t .before .before .before .before)
 -- the words lent are those of the scrambled value
 lent-words : (t : tie.After-split) → let g = t .before .before in let n = g .before .before .before .before in
     let o = start (n .before .before) .args in let p = found n in
-    take (g .granule-at .result .words) (t .split .result) ≡ wordsOf (wordCount p (o .address)) (scrambled primitives map1 (o .constants .now) p (o .value))
+    take (g .granule-at .result .words) (t .split .result) ≡ wordsOf (wordCount p (o .address)) (scrambled primitives (o .constants .now) p (o .value))
 lent-words t =
     let g = t .before .before in
     let h = held _ _ _ _ _ _ _ (at-place (g .before .before .before .before)) in

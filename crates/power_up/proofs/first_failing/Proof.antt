@@ -18,7 +18,7 @@ use Rattle.power_up.proofs.first_failing.Tie as tie
 
 abbrev Inv-loop : tie.InvT-loop
 Inv-loop cells constants number₀ number =
-    (number ≤ 7) × (firstFailing primitives map1 constants cells 0 map1 ≡ firstFailing primitives map1 constants cells number (drop number map1))
+    (number ≤ 7) × (firstFailing primitives constants cells 0 map1 ≡ firstFailing primitives constants cells number (drop number map1))
 
 abbrev μ-loop : tie.MeasureT-loop
 μ-loop cells constants number₀ number = 7 - number
@@ -42,8 +42,8 @@ module _ (t : tie.After-digest-holds Inv-loop μ-loop) where
   abbrev start : tie.Start Inv-loop μ-loop
   start = loop .before .before .before
 
-  holds : t .digest-holds .result ≡ digestHolds primitives map1 (start .args .constants .now) (start .args .cells .now) (partition map1 (loop .loop .number))
-  holds = t .digest-holds .ensures ∙ ap (digestHolds primitives map1 (start .args .constants .now) (start .args .cells .now)) (t .before .partition-of .ensures)
+  holds : t .digest-holds .result ≡ digestHolds primitives (start .args .constants .now) (start .args .cells .now) (partition map1 (loop .loop .number))
+  holds = t .digest-holds .ensures ∙ ap (digestHolds primitives (start .args .constants .now) (start .args .cells .now)) (t .before .partition-of .ensures)
 
   known : loop .loop .number < length map1
   known = rw map1-length (omega arith)

@@ -22,12 +22,12 @@ module _ (t : tie.After-decode) where
   abbrev lent : Lent
   lent = lentOf (start .args .cells .now) (start .args .copy .now) (start .args .constants .now)
 
-  life : t .decode .result ≡ lifeCycleIn primitives map1 lent
+  life : t .decode .result ≡ lifeCycleIn map1 lent
   life = t .decode .ensures ∙ life-cycle-slices lent (start .pre .0)
 
-  decided : {w : Waking} → lifeCycleWaking (lifeCycleIn primitives map1 lent) ≡ w
-      → wokenResult (λ l. w) lent ≡ wokenResult (λ l. lifeCycleWaking (lifeCycleIn primitives map1 l)) lent
-  decided e = sym (woken-as (λ l. lifeCycleWaking (lifeCycleIn primitives map1 l)) lent e)
+  decided : {w : Waking} → lifeCycleWaking (lifeCycleIn map1 lent) ≡ w
+      → wokenResult (λ l. w) lent ≡ wokenResult (λ l. lifeCycleWaking (lifeCycleIn map1 l)) lent
+  decided e = sym (woken-as (λ l. lifeCycleWaking (lifeCycleIn map1 l)) lent e)
 
 sub-decode : tie.Need-sub-decode
 sub-decode c = search needs

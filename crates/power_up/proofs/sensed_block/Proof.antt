@@ -90,7 +90,7 @@ returns-3 : tie.Need-returns-3
 returns-3 c =
     let j = c .before .before .before .before in
     let t = j .before .before in
-    let block = ap₂ (unscrambled primitives map1 (start t .args .constants .now)) (found t) (j .block-at .ensures) in
+    let block = ap₂ (unscrambled primitives (start t .args .constants .now)) (found t) (j .block-at .ensures) in
     c .split2 .ensures
     ∙ ap (wordsOf 4) (c .before .unscrambled .ensures ∙ block)
     ∙ data-block primitives map1 map1-fit _ _ (at t) (start t .pre .0) (known t) (small t) (lockable t (j .before .if1 .left))

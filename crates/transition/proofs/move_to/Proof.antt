@@ -39,8 +39,8 @@ abbrev start : tie.After-program → tie.Start
 start q = q .before .before .before .before .before .before
 
 answered : (q : tie.After-program) → let o = start q .args in
-    (q .program .result ≡ programAnswer (o .cells .now) (stateAt primitives map1) (stateWords (o .constants .now) (o .target)))
-    × (q .program .last .0 ≡ programCells (o .cells .now) (stateAt primitives map1) (stateWords (o .constants .now) (o .target)))
+    (q .program .result ≡ programAnswer (o .cells .now) (stateAt map1) (stateWords (o .constants .now) (o .target)))
+    × (q .program .last .0 ≡ programCells (o .cells .now) (stateAt map1) (stateWords (o .constants .now) (o .target)))
 answered q =
     let o = start q .args in
     let e = q .before .before .before .state-words .ensures in

@@ -45,7 +45,7 @@ ready q =
     record { known = known (e .before); target-known = e .if2 .left; stroke-left = b .if3 .left }
 
 done : (w : tie.After-permitted) → let o = spent (w .before .before .before .before .before) .args in
-    programAnswer (o .cells .now) (counterAt primitives map1) (counterWords (o .constants .now) (suc (o .session .count))) ≡ Done
+    programAnswer (o .cells .now) (counterAt map1) (counterWords (o .constants .now) (suc (o .session .count))) ≡ Done
 done w = sym (w .before .before .before .before .before .spend .ensures .0) ∙ w .before .enum-told2 .given .1
 
 returns : tie.Need-returns
