@@ -3,3 +3,4 @@ pub mod Boxes
 pub mod Permutation
 pub mod KeyRegister
 pub mod Inverse
+pub mod Vectors
