@@ -70,8 +70,10 @@ module _ {M : Type 1} (𝓤 : URA M) (H : Heap 𝓤) (A : Atoms 𝓤) (W : Given
   apart asks asked fits =
       qed W ((‵ (flft κ q) ⊛ ‵ ftrue) ∷ ‵ (owns (B (κ, tt) ∷ []) (d, tt) (mach κ d ∷ [], tt)) ∷ []) ∵
       move ! (1 ∷ []) $ fsplit ! $ move ! (1 ∷ []) $ drop ! $ use1 W (‵ (Own κ d) ⊛ ‵ (Own κ d)) twice $ split ! $
-      use1 W (given (mach κ d ∷ [] ≡ mach κ d ∷ []) (‵ (all-own (D κ .parts) (L κ) (vd κ d)))) (own-open 𝓤 H A W (D κ) (L κ) (vd κ d) (mach κ d)) $ learn ! (λ _.
+      use1 W (given (mach κ d ∷ [] ≡ mach κ d ∷ []) (‵ (all-own (D κ .parts) (L κ) (vd κ d)))) (own-open 𝓤 H A W (D κ) (L κ) (vd κ d) (mach κ d)) $
+      learn ! (λ _.
       use1 W (‵ (ownAt (D κ .parts) (L κ) 0 (d .script)) ⊛ ‵ (rest (D κ .parts) (L κ) 0 (vd κ d))) (own-out 𝓤 H A W (D κ .parts) (L κ) 0 (vd κ d)) $ split ! $
       -- [what the script owns; what the place owns; what the struct owns; the token]
-      move ! (1 ∷ []) $ drop ! $ nothing ! $ owned ! usize (Is usize) (uint-makes 𝓤 H A W w64) (d .place) _ (refl, fits) $ fjoin ! $ move ! (1 ∷ 0 ∷ []) $ fjoin ! $
+      move ! (1 ∷ []) $ drop ! $ nothing ! $ owned ! usize (Is usize) (uint-makes 𝓤 H A W w64) (d .place) _ (refl, fits) $ fjoin ! $ move ! (1 ∷ 0 ∷ []) $
+      fjoin ! $
       move ! (2 ∷ 0 ∷ []) $ use2 W (raw asks) asked $ frame ! $ done !)

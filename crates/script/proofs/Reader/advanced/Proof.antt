@@ -79,7 +79,8 @@ module _ {M : Type 1} (𝓤 : URA M) (H : Heap 𝓤) (A : Atoms 𝓤) (W : Given
   said : (n : ℕ) → ent 𝓤 (ensured 𝓤 H A step.ended (step.clauses 𝓤 H A mem run) (κ, tt) (vd κ d) tt n) (fact 𝓤 (n ≡ found))
   said n = exE 𝓤 _ (λ ws. snd∗ 𝓤 (sem 𝓤 H A (lasts step.ended (κ, tt) (vd κ d) ws)) (fact 𝓤 (n ≡ found)))
 
-  exits : (n : ℕ) (u : Val) → n ≡ found → n < 2 ^ 64 → ent 𝓤 (⋆ 𝓤 H A (‵ (usize .own n (u ∷ [])) ∷ (‵ (flft κ q) ⊛ ‵ ftrue) ∷ ‵ (Own κ d) ∷ [])) (Post (T′.lowered (after n)))
+  exits : (n : ℕ) (u : Val) → n ≡ found → n < 2 ^ 64
+      → ent 𝓤 (⋆ 𝓤 H A (‵ (usize .own n (u ∷ [])) ∷ (‵ (flft κ q) ⊛ ‵ ftrue) ∷ ‵ (Own κ d) ∷ [])) (Post (T′.lowered (after n)))
   exits n u e ok =
       qed W (‵ (usize .own n (u ∷ [])) ∷ (‵ (flft κ q) ⊛ ‵ ftrue) ∷ ‵ (Own κ d) ∷ []) ∵ drop ! $
       suffices ! _ (ends-at 𝓤 H A advanced.ended stayed (advanced.clauses 𝓤 H A mem run) W (((κ, tt), (q, tt), tt, (d, tt), (mach κ d ∷ [], tt)), tt) (T′.lowered (after n)) (after n) (tt, tt) (tt, tt)) $ says ! (ap after e) $
@@ -88,10 +89,12 @@ module _ {M : Type 1} (𝓤 : URA M) (H : Heap 𝓤) (A : Atoms 𝓤) (W : Given
       owned ! usize (Is usize) (uint-makes 𝓤 H A W w64) n _ (refl, ok) $ move ! (1 ∷ 0 ∷ []) $ by ! (own-put 𝓤 H A W (D κ) (L κ) 1 (vd κ d) n (mach κ d))
 
   module _ (C : Calls 𝓤 H) (Λ : Loops 𝓤 H) (fm : FmC 𝓤 H (W .laws) C) (known : Triple 𝓤 (C #script·place-after) (StepAt 𝓤 H A mem run)) where
-    walk : Holds (hasTy (T′.mir (named 0)) (mach κ d)) × WT (mach κ d) → ent 𝓤 (onEntry 𝓤 H A advanced.signature (κ, tt) (q, tt) (d, tt) (mach κ d ∷ [], tt)) (WpFn 𝓤 H C Λ code.function (mach κ d ∷ []) Post)
+    walk : Holds (hasTy (T′.mir (named 0)) (mach κ d)) × WT (mach κ d)
+        → ent 𝓤 (onEntry 𝓤 H A advanced.signature (κ, tt) (q, tt) (d, tt) (mach κ d ∷ [], tt)) (WpFn 𝓤 H C Λ code.function (mach κ d ∷ []) Post)
     walk wt =
         qed W (raw (onEntry 𝓤 H A advanced.signature (κ, tt) (q, tt) (d, tt) (mach κ d ∷ [], tt)) ∷ []) ∵ enter ! C Λ code.function (mach κ d ∷ []) _ $
-        alloc1 ! (λ l₀. alloc1 ! (λ l₁. alloc1 ! (λ l₂. alloc1 ! (λ l₃. alloc1 ! (λ l₄. alloc1 ! (λ l₅. alloc0 ! $ params1 ! $ pass1 ! (init ! 8 refl wt) $ pass0 ! $
+        alloc1 ! (λ l₀. alloc1 ! (λ l₁. alloc1 ! (λ l₂. alloc1 ! (λ l₃. alloc1 ! (λ l₄. alloc1 ! (λ l₅. alloc0 ! $ params1 ! $ pass1 ! (init ! 8 refl wt) $
+        pass0 ! $
         assigns ! (of-opd ! (load ! (from ! (fld ! refl (stop !))) (look-in ! 8 (sub ! 0 refl (whole !))))) (from ! (stop !)) (init ! 4 refl (tt, wt .1 .0)) $
         assigns ! (of-opd ! (load ! (from ! (fld ! refl (stop !))) (look-in ! 8 (sub ! 1 refl (whole !))))) (from ! (stop !)) (init ! 2 refl (tt, wt .1 .1 .0)) $
         move ! (12 ∷ []) $ use1 W (raw (StepAt 𝓤 H A mem run .pre to) ⊛ ‵ (Own κ d)) (apart 𝓤 H A W κ q d _ asked (wt .1 .1 .0 .fits)) $ split ! $
@@ -100,22 +103,29 @@ module _ {M : Type 1} (𝓤 : URA M) (H : Heap 𝓤) (A : Atoms 𝓤) (W : Given
         split ! $ move ! (1 ∷ []) $ use1 W (raw (fact 𝓤 (n ≡ found))) (said n) $ heard ! (n ≡ found) (λ e. split ! $ move ! (1 ∷ []) $
         -- [the result; the token; what the struct owns; _5; …; _4; …; _3; …; room for _2; …; _1; …; room for _0; …]
         peeks ! usize (Is usize) (shows 𝓤 H A usize) n (u ∷ []) (λ is.
-        land ! (from ! (stop !)) (init ! 9 refl (uint-lawful 𝓤 H A W w64 .typed n _ is .0)) $ rewrite ! 9 (λ (w : Val). ‵ (fat fullShare (tyInt w64) l₂ 0 w)) (ap only (is .0)) refl $
+        land ! (from ! (stop !)) (init ! 9 refl (uint-lawful 𝓤 H A W w64 .typed n _ is .0)) $
+        rewrite ! 9 (λ (w : Val). ‵ (fat fullShare (tyInt w64) l₂ 0 w)) (ap only (is .0)) refl $
         assigns ! (of-opd ! (load ! (from ! (fld ! refl (stop !))) (look-in ! 11 (sub ! 0 refl (whole !))))) (from ! (stop !)) (init ! 3 refl (tt, wt .1 .0)) $
         assigns ! (agg ! (and-then ! (load ! (from ! (stop !)) (look ! 3 refl)) (and-then ! (load ! (from ! (stop !)) (look ! 9 refl)) (no-more !)))) (from ! (stop !)) (init ! 13 refl (tt, (wt .1 .0, (record { fits = is .1 }, tt)))) $
         returns ! (look ! 13 refl) $ forget ! 3 refl $ forget ! 5 refl $ forget ! 7 refl $ forget ! 9 refl $ forget ! 11 refl $ forget ! 13 refl $
-        move ! (13 ∷ 14 ∷ []) $ free1 ! $ move ! (11 ∷ 12 ∷ []) $ free1 ! $ move ! (9 ∷ 10 ∷ []) $ free1 ! $ move ! (7 ∷ 8 ∷ []) $ free1 ! $ move ! (5 ∷ 6 ∷ []) $ free1 ! $ move ! (3 ∷ 4 ∷ []) $ free1 ! $ free0 ! $ by ! (exits n u e (is .1))))))))))))
+        move ! (13 ∷ 14 ∷ []) $ free1 ! $ move ! (11 ∷ 12 ∷ []) $ free1 ! $ move ! (9 ∷ 10 ∷ []) $ free1 ! $ move ! (7 ∷ 8 ∷ []) $ free1 ! $
+        move ! (5 ∷ 6 ∷ []) $ free1 ! $ move ! (3 ∷ 4 ∷ []) $ free1 ! $ free0 ! $ by ! (exits n u e (is .1))))))))))))
 
 module _ {M : Type 1} (𝓤 : URA M) (H : Heap 𝓤) (A : Atoms 𝓤) (W : Given 𝓤 H A) (mem : Memory → SProp 𝓤) (run : Routine → Fun 𝓤) where
   advanced-walks : (C : Calls 𝓤 H) (Λ : Loops 𝓤 H) → FmC 𝓤 H (W .laws) C → Triple 𝓤 (C #script·place-after) (StepAt 𝓤 H A mem run)
       → Walks 𝓤 H A advanced.ended stayed (WpFn 𝓤 H C Λ code.function) (advanced.clauses 𝓤 H A mem run)
-  advanced-walks C Λ fm known = walked 𝓤 H A advanced.ended stayed (advanced.clauses 𝓤 H A mem run) (WpFn 𝓤 H C Λ code.function) (λ κs. (LL.vals (D (κs .0)) (L (κs .0)), tt)) (λ κs. (LL.tells (D (κs .0)) (L (κs .0)), tt))
-      (λ κs qs bounds a g are. via 𝓤 _ (fst∗ 𝓤 _ (emp 𝓤)) (walk 𝓤 H A W mem run (κs .0) (qs .0) (a .0) C Λ fm known (LL.lawful (D (κs .0)) (L (κs .0)) 𝓤 H A W .typed (a .0) _ (are .0) .0)))
+  advanced-walks C Λ fm known =
+      walked 𝓤 H A advanced.ended stayed (advanced.clauses 𝓤 H A mem run) (WpFn 𝓤 H C Λ code.function) (λ κs. (LL.vals (D (κs .0)) (L (κs .0)), tt))
+      (λ κs. (LL.tells (D (κs .0)) (L (κs .0)), tt))
+      (λ κs qs bounds a g are. via 𝓤 _ (fst∗ 𝓤 _ (emp 𝓤))
+      (walk 𝓤 H A W mem run (κs .0) (qs .0) (a .0) C Λ fm known (LL.lawful (D (κs .0)) (L (κs .0)) 𝓤 H A W .typed (a .0) _ (are .0) .0)))
 
 advanced-meets : {M : Type 1} (𝓤 : URA M) (H : Heap 𝓤) (A : Atoms 𝓤) (W : Given 𝓤 H A) (mem : Memory → SProp 𝓤) (run : Routine → Fun 𝓤) (𝓣 : Tables 𝓤 H)
     → Triple 𝓤 (𝓣 .C #script·place-after) (StepAt 𝓤 H A mem run)
     → Meets 𝓤 H A advanced.signature (WpFn 𝓤 H (𝓣 .C) (𝓣 .Λ) code.function) (advanced.spec 𝓤 H A mem run)
-advanced-meets 𝓤 H A W mem run 𝓣 known-step = walk-meets 𝓤 H A advanced.ended stayed W (goes-none 𝓤 H A W 1 B yes (λ κs x f. refl), tt) (advanced.clauses 𝓤 H A mem run) (WpFn 𝓤 H (𝓣 .C) (𝓣 .Λ) code.function) (WpFn-mono 𝓤 H (W .laws) 𝓣 code.function)
+advanced-meets 𝓤 H A W mem run 𝓣 known-step =
+    walk-meets 𝓤 H A advanced.ended stayed W (goes-none 𝓤 H A W 1 B yes (λ κs x f. refl), tt) (advanced.clauses 𝓤 H A mem run)
+    (WpFn 𝓤 H (𝓣 .C) (𝓣 .Λ) code.function) (WpFn-mono 𝓤 H (W .laws) 𝓣 code.function)
     (advanced-walks 𝓤 H A W mem run (𝓣 .C) (𝓣 .Λ) (fmOf 𝓤 H (W .laws) 𝓣) known-step)
 
 pub advanced-spec : {M : Type 1} → stated.statement M
