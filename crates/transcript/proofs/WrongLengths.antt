@@ -1,37 +1,63 @@
--- "a wrong length gives 0x10 on each line": the lines then depend on the script alone. So a file that is longer than what the program reads
--- of it prints what its read start prints, since both are too long.
-use Prim.Native.Nat.{ℕ, zero, suc, _+_, _<_}
-use mathlib.Core.Path.{_≡_, refl, sym, ap}
-use mathlib.Core.List.{List, _∷_, _++_, append-nil}
+-- Files of a wrong length. The idea: every step refuses with 0x10 and leaves the machine, so each line is known from its record, and two such machines print
+-- alike.
+use Prim.Native.Nat.{ℕ, zero, suc, _+_, _/_, _<_}
+use mathlib.Core.Path.{_≡_, refl, ap}
+use mathlib.Core.Bool.{false, not, _&&_}
+use mathlib.Core.List.{List, [], _∷_, _++_, append-nil}
 use native.Mathlib.Numerals.{add-one}
+use native.Mathlib.Omega.{arith}
+use lib.Dec.{eqb}
 use lib.ListN.{length}
 use borrow.Author.Tests.{ne-eqb}
+use Rattle.basics.specs.Choice.{if_then_else_}
+use Rattle.basics.proofs.Choice.{and-false, if-true}
+use Rattle.partitions.specs.Map.{limit}
+use Rattle.partitions.specs.Map1.{map1}
 use Rattle.model.specs.declared.Answer.the-variants.{WrongLength}
-use Rattle.model.specs.Lent.{Machine}
-use Rattle.chip.specs.declared.Judged.the-variants as Judged
-use Rattle.chip.specs.Judging.{judgedOf}
-use Rattle.chip.proofs.Judging.{wrong-length, refused-step}
+use Rattle.model.specs.declared.Command.{Command}
+use Rattle.model.specs.Lent.{Machine, rightLengths}
+use Rattle.model.specs.Step.{Step, unchanged, step}
+use Rattle.chip.specs.Chip.{resultFor}
 use Rattle.script.specs.declared.Reading.{Reading}
 use Rattle.script.specs.declared.Reading.the-variants.{Record, End, Refused}
 use Rattle.script.specs.Records.{kindOf, nextAt}
 use Rattle.script.specs.Lines.{lineOf, endLine}
 use Rattle.script.proofs.Records.{too-long}
-use Rattle.transcript.specs.Files.{fileWords}
+use Rattle.transcript.specs.Files.{pairs, fileWords}
 use Rattle.transcript.specs.Transcript.{Line, refusedKind, linesFrom, chipOf, linesOf, printed, transcript}
+use Rattle.transcript.specs.WrongLengths.{Wrong, Refusing, refused, unread, Each, none, more, WrongLengths}
 
--- what is lent has a wrong length
-abbrev pub Wrong : Machine → Type 0
-Wrong m = judgedOf (length (m .lent .cells)) (length (m .lent .copy)) (m .lent .constants) ≡ Judged.Refused WrongLength
+images-wrong : (image constants : List ℕ) → (length (fileWords image) ≡ 448 → ⊥) → Wrong image constants
+unfolding rightLengths limit map1
+images-wrong image constants h = rw (ne-eqb _ _ h)
 
-pub wrong-image : (image constants : List ℕ) → (length (fileWords image) ≡ 448 → ⊥) → Wrong (chipOf image constants)
-wrong-image image constants h = sym (wrong-length _ _ _ (rw (ne-eqb _ _ h)))
+constants-wrong : (image constants : List ℕ) → (length (fileWords constants) ≡ 132 → ⊥) → Wrong image constants
+unfolding rightLengths limit map1
+constants-wrong image constants h = rw (ne-eqb _ _ h)
+    (and-false (eqb (length (chipOf image constants .lent .cells)) (limit map1 / 2) && eqb (length (chipOf image constants .lent .copy)) (limit map1 / 2)) refl)
 
-module _ (s : List ℕ) (m k : Machine) (wrong-m : Wrong m) (wrong-k : Wrong k) where
+step-wrong : (x : Command) (m : Machine) → rightLengths map1 (m .lent) ≡ false → resultFor x m ≡ record { machine = m; answer = WrongLength }
+unfolding step unchanged
+step-wrong x m e = ap (λ (s : Step). s .result) (if-true (unchanged WrongLength m) _ (ap not e))
+
+module _ (s : List ℕ) (m : Machine) (wrong : rightLengths map1 (m .lent) ≡ false) where
+  lines-by : (n place : ℕ) → ((p : ℕ) → Each Refusing (linesFrom n s p m)) → (r : Reading) → nextAt s place ≡ r → Each Refusing (linesFrom (suc n) s place m)
+  unfolding linesFrom
+  lines-by n place known (Record command next) e = rw (e, linesFrom, step-wrong command m wrong) (more refused (known next))
+  lines-by n place known End e = rw (e, linesFrom) none
+  lines-by n place known (Refused w at) e = rw (e, linesFrom) (more (unread w) none)
+
+  lines-refused : (n place : ℕ) → Each Refusing (linesFrom n s place m)
+  unfolding linesFrom
+  lines-refused zero place = none
+  lines-refused (suc n) place = lines-by n place (lines-refused n) (nextAt s place) refl
+
+module _ (s : List ℕ) (m k : Machine) (wrong-m : rightLengths map1 (m .lent) ≡ false) (wrong-k : rightLengths map1 (k .lent) ≡ false) where
   same-step : (n place : ℕ) → ((p : ℕ) → linesFrom n s p m ≡ linesFrom n s p k)
       → (r : Reading) → nextAt s place ≡ r → linesFrom (suc n) s place m ≡ linesFrom (suc n) s place k
   unfolding linesFrom
   same-step n place known (Record command next) e =
-      rw (e, linesFrom, ← refused-step command m WrongLength wrong-m, ← refused-step command k WrongLength wrong-k)
+      rw (e, linesFrom, step-wrong command m wrong-m, step-wrong command k wrong-k)
       (ap (λ (ls : List Line). record { kind = kindOf command; code = 0x10; value = 0 } ∷ ls) (known next))
   same-step n place known End e = rw (e, linesFrom)
   same-step n place known (Refused w at) e = rw (e, linesFrom)
@@ -41,15 +67,28 @@ module _ (s : List ℕ) (m k : Machine) (wrong-m : Wrong m) (wrong-k : Wrong k) 
   same-lines zero place = refl
   same-lines (suc n) place = same-step n place (same-lines n) (nextAt s place) refl
 
-pub wrong-lengths-alike : (script image constants image′ constants′ : List ℕ) → Wrong (chipOf image constants) → Wrong (chipOf image′ constants′)
+printed-alike : (script image constants image′ constants′ : List ℕ) → Wrong image constants → Wrong image′ constants′
     → transcript script image constants ≡ transcript script image′ constants′
 unfolding transcript linesOf
-wrong-lengths-alike script image constants image′ constants′ h h′ =
+printed-alike script image constants image′ constants′ h h′ =
     ap (λ (ls : List Line). printed ls ++ endLine (length ls))
     (same-lines script (chipOf image constants) (chipOf image′ constants′) h h′ (length script + 1) 0)
 
--- "Script 0x14 prints the line `00 14 0000000000000000` and `end 1`, and nothing runs": so does the start that the program reads of it
-pub too-long-script : (script image constants : List ℕ) → 65536 < length script → transcript script image constants ≡ lineOf 0 0x14 0 ++ endLine 1
+too-long-script : (script image constants : List ℕ) → 65536 < length script → transcript script image constants ≡ lineOf 0 0x14 0 ++ endLine 1
 unfolding transcript linesOf linesFrom refusedKind printed
 too-long-script script image constants h =
     rw (add-one (length script), linesFrom, too-long script 0 h) (ap (λ (line : List ℕ). line ++ endLine 1) (append-nil (lineOf 0 0x14 0)))
+
+pub wrong-lengths : WrongLengths
+unfolding linesOf
+wrong-lengths = record {
+  images = images-wrong;
+  constants = constants-wrong;
+  lines = λ script image constants h. lines-refused script (chipOf image constants) h (length script + 1) 0;
+  alike = printed-alike;
+  scripts = too-long-script;
+}
+
+-- the premise is met: two empty files
+no-files : Wrong [] []
+no-files = images-wrong [] [] (λ e. unfold fileWords pairs if_then_else_ in omega (arith, e))

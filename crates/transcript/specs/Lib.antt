@@ -1,3 +1,4 @@
 pub mod Files
 pub mod Transcript
 pub mod Turns
+pub mod WrongLengths

@@ -1,0 +1,38 @@
+-- Files of a wrong length, and scripts that are too long: "a wrong length gives 0x10 on each line".
+use Prim.Native.Nat.{ℕ, _<_}
+use mathlib.Core.Path.{_≡_}
+use mathlib.Core.Bool.{false}
+use mathlib.Core.List.{List, [], _∷_, _++_}
+use lib.ListN.{length}
+use Rattle.partitions.specs.Map1.{map1}
+use Rattle.model.specs.Lent.{rightLengths}
+use Rattle.script.specs.declared.Refusal.{Refusal}
+use Rattle.script.specs.Records.{refusalCode}
+use Rattle.script.specs.Lines.{lineOf, endLine}
+use Rattle.transcript.specs.Files.{fileWords}
+use Rattle.transcript.specs.Transcript.{Line, chipOf, linesOf, transcript}
+
+-- these files lend something of a wrong length
+abbrev pub Wrong : List ℕ → List ℕ → Type 0
+Wrong image constants = rightLengths map1 (chipOf image constants .lent) ≡ false
+
+-- a line that a wrong length gives to a record, or the reader's own refusal
+pub data Refusing : Line → Type 0 where
+  refused : {kind : ℕ} → Refusing (record { kind = kind; code = 0x10; value = 0 })
+  unread : {kind place : ℕ} (refusal : Refusal) → Refusing (record { kind = kind; code = refusalCode refusal; value = place })
+
+pub data Each (P : Line → Type 0) : List Line → Type 0 where
+  none : Each P []
+  more : {l : Line} {ls : List Line} → P l → Each P ls → Each P (l ∷ ls)
+
+pub record WrongLengths : Type 0 where
+  -- a file with any other number of words is of a wrong length
+  pub images : (image constants : List ℕ) → (length (fileWords image) ≡ 448 → ⊥) → Wrong image constants
+  pub constants : (image constants : List ℕ) → (length (fileWords constants) ≡ 132 → ⊥) → Wrong image constants
+  -- "a wrong length gives 0x10 on each line"
+  pub lines : (script image constants : List ℕ) → Wrong image constants → Each Refusing (linesOf script image constants)
+  -- what is printed then depends on the script alone: so a file that is longer than what the program reads of it prints what its read start prints
+  pub alike : (script image constants image′ constants′ : List ℕ) → Wrong image constants → Wrong image′ constants′
+      → transcript script image constants ≡ transcript script image′ constants′
+  -- "Script 0x14 prints the line `00 14 0000000000000000` and `end 1`, and nothing runs": so does the start that the program reads of it
+  pub scripts : (script image constants : List ℕ) → 65536 < length script → transcript script image constants ≡ lineOf 0 0x14 0 ++ endLine 1
