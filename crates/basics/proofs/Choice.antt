@@ -1,10 +1,9 @@
 -- Laws of Booleans and of choice. The idea: a test whose value a goal doesn't show is taken apart once, here.
 use mathlib.Core.Path.{_≡_, refl, sym, subst, _∙_}
-use mathlib.Core.Bool.{Bool, true, false, not, _&&_, _||_}
+use mathlib.Core.Bool.{Bool, true, false, _&&_, _||_}
 use Prim.Native.Nat.{ℕ}
 use native.Mathlib.Omega.{arith}
-use lib.Dec.{T, T-not, eqb}
-use borrow.Author.Tests.{eq-eqb}
+use lib.Dec.{T}
 use Rattle.basics.specs.Choice.{if_then_else_}
 
 -- a test is true or false, and each case may use which
@@ -21,10 +20,6 @@ from-T {b = false} t = absurd t
 
 pub to-T : {b : Bool} → b ≡ true → T b
 to-T e = subst T (sym e) tt
-
--- two numbers that are computed to differ
-pub unequal : {m n : ℕ} → T (not (eqb m n)) → m ≡ n → ⊥
-unequal {m} {n} t e = T-not (eqb m n) t (to-T (eq-eqb m n e))
 
 -- a test that can't pass fails
 pub not-passed : (b : Bool) → (b ≡ true → ⊥) → b ≡ false

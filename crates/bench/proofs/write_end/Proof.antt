@@ -4,9 +4,6 @@ use borrow.Author.Needs.{needs}
 use Rattle.bench.proofs.write_end.Statement.{statement}
 use Rattle.bench.proofs.write_end.Tie as tie
 
-end-line-requires : tie.Need-end-line-requires
-end-line-requires c κs = search needs
-
 whole : (t : tie.After-end-line) → Prefix (t .end-line .result .len) (t .end-line .result .bytes)
 whole t = end-counted (t .end-line .result) (t .before .args .count) (t .end-line .ensures)
 
@@ -16,18 +13,12 @@ array-share-prefix-bytes c = whole (c .before) .0
 slice-aggregate-write-all : tie.Need-slice-aggregate-write-all
 slice-aggregate-write-all c = whole (c .before .before) .1
 
-write-all-requires : tie.Need-write-all-requires
-write-all-requires c κs = search needs
-
-returns : tie.Need-returns
-returns c = search needs
-
 pub write-end-spec : {M : Type 1} → statement M
 write-end-spec =
     tie.close
     (tie.spec
-    end-line-requires
+    (λ c κs. search needs)
     array-share-prefix-bytes
     slice-aggregate-write-all
-    write-all-requires
-    returns)
+    (λ c κs. search needs)
+    (λ c. search needs))

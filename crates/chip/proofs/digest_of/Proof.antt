@@ -7,15 +7,6 @@ use borrow.Author.Needs.{needs}
 use Rattle.chip.proofs.digest_of.Statement.{statement}
 use Rattle.chip.proofs.digest_of.Tie as tie
 
-block-at-requires : tie.Need-block-at-requires
-block-at-requires c κs = search needs
-
-eight-words-requires : tie.Need-eight-words-requires
-eight-words-requires c κs = search needs
-
-digest-requires : tie.Need-digest-requires
-digest-requires c κs = search needs
-
 returns : tie.Need-returns
 unfolding digestStart digestFinal
 returns c =
@@ -25,4 +16,4 @@ returns c =
 
 pub digest-of-spec : {M : Type 1} → statement M
 digest-of-spec =
-    tie.close (tie.spec block-at-requires eight-words-requires digest-requires returns)
+    tie.close (tie.spec (λ c κs. search needs) (λ c κs. search needs) (λ c κs. search needs) returns)

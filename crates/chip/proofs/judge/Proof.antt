@@ -25,9 +25,6 @@ returns-3 c =
 sized : (c : tie.Else3) → lengths (c .before .before .before .before .args .cells) (c .before .before .before .before .args .copy) (c .before .before .before .before .args .constants .now) ≡ true
 sized c = lengths-right _ _ (c .before .before .before .before .args .constants .now) (c .before .before .if1 .left) (c .before .if2 .left) (c .if3 .left)
 
-valid-constants-requires : tie.Need-valid-constants-requires
-valid-constants-requires c κs = search needs
-
 returns-4 : tie.Need-returns-4
 returns-4 c =
     let o = c .before .before .before .before .before .before .args in
@@ -40,4 +37,4 @@ returns-5 c =
 
 pub judge-spec : {M : Type 1} → statement M
 judge-spec =
-    tie.close (tie.spec returns returns-2 returns-3 valid-constants-requires returns-4 returns-5)
+    tie.close (tie.spec returns returns-2 returns-3 (λ c κs. search needs) returns-4 returns-5)

@@ -4,33 +4,6 @@ use borrow.Author.Needs.{needs}
 use Rattle.chip.proofs.key_of.Statement.{statement}
 use Rattle.chip.proofs.key_of.Tie as tie
 
-enum-told : tie.Need-enum-told
-enum-told c = search needs
-
-enum-told-2 : tie.Need-enum-told-2
-enum-told-2 c = search needs
-
-enum-told-3 : tie.Need-enum-told-3
-enum-told-3 c = search needs
-
-eight-words-requires : tie.Need-eight-words-requires
-eight-words-requires c κs = search needs
-
-enum-told-4 : tie.Need-enum-told-4
-enum-told-4 c = search needs
-
-eight-words-requires-2 : tie.Need-eight-words-requires-2
-eight-words-requires-2 c κs = search needs
-
-enum-told-5 : tie.Need-enum-told-5
-enum-told-5 c = search needs
-
-eight-words-requires-3 : tie.Need-eight-words-requires-3
-eight-words-requires-3 c κs = search needs
-
-enum-told-6 : tie.Need-enum-told-6
-enum-told-6 c = search needs
-
 returns : tie.Need-returns
 unfolding keyOf
 returns c = rw (c .enum-told .given .1)
@@ -59,15 +32,15 @@ pub key-of-spec : {M : Type 1} → statement M
 key-of-spec =
     tie.close
     (tie.spec
-    enum-told
-    enum-told-2
-    enum-told-3
-    eight-words-requires
-    enum-told-4
-    eight-words-requires-2
-    enum-told-5
-    eight-words-requires-3
-    enum-told-6
+    (λ c. search needs)
+    (λ c. search needs)
+    (λ c. search needs)
+    (λ c κs. search needs)
+    (λ c. search needs)
+    (λ c κs. search needs)
+    (λ c. search needs)
+    (λ c κs. search needs)
+    (λ c. search needs)
     returns
     returns-2
     returns-3

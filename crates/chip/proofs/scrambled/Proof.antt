@@ -9,19 +9,10 @@ use borrow.Author.Needs.{needs}
 use Rattle.chip.proofs.scrambled.Statement.{statement}
 use Rattle.chip.proofs.scrambled.Tie as tie
 
-rights-requires : tie.Need-rights-requires
-rights-requires c κs = search needs
-
 returns : tie.Need-returns
 returns c =
     let r = c .before .before in
     plain (r .before .before .args .constants .now) (r .before .before .args .partition) (r .before .before .args .block) (ap (λ (x : Rights). x .scrambled) (sym (r .rights .ensures)) ∙ not-true _ (c .if1 .taken))
-
-key-of-requires : tie.Need-key-of-requires
-key-of-requires c κs = search needs
-
-encrypt-requires : tie.Need-encrypt-requires
-encrypt-requires c κs = search needs
 
 returns-2 : tie.Need-returns-2
 returns-2 c =
@@ -33,4 +24,4 @@ returns-2 c =
 
 pub scrambled-spec : {M : Type 1} → statement M
 scrambled-spec =
-    tie.close (tie.spec rights-requires returns key-of-requires encrypt-requires returns-2)
+    tie.close (tie.spec (λ c κs. search needs) returns (λ c κs. search needs) (λ c κs. search needs) returns-2)

@@ -6,12 +6,6 @@ use borrow.Author.Needs.{needs}
 use Rattle.direct_access.proofs.answer_of.Statement.{statement}
 use Rattle.direct_access.proofs.answer_of.Tie as tie
 
-enum-told : tie.Need-enum-told
-enum-told c = search needs
-
-enum-known-programmed : tie.Need-enum-known-programmed
-enum-known-programmed c = search needs
-
 returns : tie.Need-returns
 returns c = ap (λ (r : Programmed). programmedAnswer r (c .before .before .args .value)) (sym (c .enum-told .given .1))
 
@@ -19,4 +13,4 @@ returns-2 : tie.Need-returns-2
 returns-2 c = ap (λ (r : Programmed). programmedAnswer r (c .before .before .before .args .value)) (sym (c .before .programmed .given .1))
 
 pub answer-of-spec : {M : Type 1} → statement M
-answer-of-spec = tie.close (tie.spec enum-told enum-known-programmed returns returns-2)
+answer-of-spec = tie.close (tie.spec (λ c. search needs) (λ c. search needs) returns returns-2)

@@ -21,18 +21,6 @@ use borrow.Author.Needs.{needs}
 use Rattle.direct_access.proofs.digest.Statement.{statement}
 use Rattle.direct_access.proofs.digest.Tie as tie
 
-reach-requires : tie.Need-reach-requires
-reach-requires c κs = search needs
-
-enum-known-answer : tie.Need-enum-known-answer
-enum-known-answer c = search needs
-
-enum-known-number : tie.Need-enum-known-number
-enum-known-number c = search needs
-
-may-digest-requires : tie.Need-may-digest-requires
-may-digest-requires c κs = search needs
-
 -- what is lent, and the place that was reached
 abbrev start : tie.After-reach → tie.Start
 start r = r .before .before .before .before
@@ -49,9 +37,6 @@ at-place t = sym (t .before .before .reach .ensures) ∙ t .number .given .1
 returns : tie.Need-returns
 returns c = denied (digest-decided _ _) (at-place (c .before .before .before)) (sym (c .before .may-digest .ensures) ∙ not-true _ (c .if1 .taken))
 
-mul-digest-of : tie.Need-mul-digest-of
-mul-digest-of c = search needs
-
 sub-digest-of : tie.Need-sub-digest-of
 sub-digest-of c = let h = held _ _ _ _ _ _ _ (at-place (c .before .before .before .before .before)) in omega (arith, h .data-first)
 
@@ -61,26 +46,8 @@ part-digest-of-start c = let h = held _ _ _ _ _ _ _ (at-place (c .before .before
 part-digest-of-end : tie.Need-part-digest-of-end
 part-digest-of-end c = held _ _ _ _ _ _ _ (at-place (c .before .before .before .before .before .before)) .data-in-cells
 
-digest-of-requires : tie.Need-digest-of-requires
-digest-of-requires c κs = search needs
-
-split-requires : tie.Need-split-requires
-split-requires c κs = search needs
-
-slice-aggregate-program : tie.Need-slice-aggregate-program
-slice-aggregate-program c = search needs
-
-program-requires : tie.Need-program-requires
-program-requires c κs = search needs
-
-answer-of-requires : tie.Need-answer-of-requires
-answer-of-requires c κs = search needs
-
 returns-2 : tie.Need-returns-2
 returns-2 c = stopped (digest-decided _ _) (sym (c .before .before .before .reach .ensures) ∙ c .before .answer .given .1)
-
-same-length : tie.Need-same-length
-same-length c = search needs
 
 -- the digest is that of the data words
 digested : (d : tie.After-digest-of) → let t = d .before .before .before .before .before .before .before .before in
@@ -107,20 +74,20 @@ pub digest-spec : {M : Type 1} → statement M
 digest-spec =
     tie.close
     (tie.spec
-    reach-requires
-    enum-known-answer
-    enum-known-number
-    may-digest-requires
+    (λ c κs. search needs)
+    (λ c. search needs)
+    (λ c. search needs)
+    (λ c κs. search needs)
     returns
-    mul-digest-of
+    (λ c. search needs)
     sub-digest-of
     part-digest-of-start
     part-digest-of-end
-    digest-of-requires
-    split-requires
-    slice-aggregate-program
-    program-requires
-    answer-of-requires
+    (λ c κs. search needs)
+    (λ c κs. search needs)
+    (λ c. search needs)
+    (λ c κs. search needs)
+    (λ c κs. search needs)
     returns-2
-    same-length
+    (λ c. search needs)
     returns-3)

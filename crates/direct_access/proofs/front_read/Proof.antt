@@ -11,18 +11,6 @@ use borrow.Author.Needs.{needs}
 use Rattle.direct_access.proofs.front_read.Statement.{statement}
 use Rattle.direct_access.proofs.front_read.Tie as tie
 
-reach-requires : tie.Need-reach-requires
-reach-requires c κs = search needs
-
-enum-known-answer : tie.Need-enum-known-answer
-enum-known-answer c = search needs
-
-enum-known-partition : tie.Need-enum-known-partition
-enum-known-partition c = search needs
-
-may-front-read-requires : tie.Need-may-front-read-requires
-may-front-read-requires c κs = search needs
-
 -- what is lent, and the place that was reached
 abbrev start : tie.After-reach → tie.Start
 start r = r .before .before .before .before
@@ -53,10 +41,10 @@ pub front-read-spec : {M : Type 1} → statement M
 front-read-spec =
     tie.close
     (tie.spec
-    reach-requires
-    enum-known-answer
-    enum-known-partition
-    may-front-read-requires
+    (λ c κs. search needs)
+    (λ c. search needs)
+    (λ c. search needs)
+    (λ c κs. search needs)
     returns
     granule-requires
     returns-2

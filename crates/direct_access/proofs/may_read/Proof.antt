@@ -6,15 +6,6 @@ use borrow.Author.Needs.{needs}
 use Rattle.direct_access.proofs.may_read.Statement.{statement}
 use Rattle.direct_access.proofs.may_read.Tie as tie
 
-rights-requires : tie.Need-rights-requires
-rights-requires c κs = search needs
-
-sensed-at-requires : tie.Need-sensed-at-requires
-sensed-at-requires c κs = search needs
-
-read-locked-requires : tie.Need-read-locked-requires
-read-locked-requires c κs = search needs
-
 returns : tie.Need-returns
 unfolding mayRead inDigest sensedLocked
 returns c =
@@ -24,4 +15,4 @@ returns c =
 
 pub may-read-spec : {M : Type 1} → statement M
 may-read-spec =
-    tie.close (tie.spec rights-requires sensed-at-requires read-locked-requires returns)
+    tie.close (tie.spec (λ c κs. search needs) (λ c κs. search needs) (λ c κs. search needs) returns)

@@ -6,15 +6,9 @@ use borrow.Author.Needs.{needs}
 use Rattle.direct_access.proofs.may_write.Statement.{statement}
 use Rattle.direct_access.proofs.may_write.Tie as tie
 
-rights-requires : tie.Need-rights-requires
-rights-requires c κs = search needs
-
-sensed-at-requires : tie.Need-sensed-at-requires
-sensed-at-requires c κs = search needs
-
 returns : tie.Need-returns
 unfolding mayWrite inDigest sensedLocked
 returns c = rw (← c .before .before .before .before .rights .ensures, ← c .before .sensed-at .ensures)
 
 pub may-write-spec : {M : Type 1} → statement M
-may-write-spec = tie.close (tie.spec rights-requires sensed-at-requires returns)
+may-write-spec = tie.close (tie.spec (λ c κs. search needs) (λ c κs. search needs) returns)

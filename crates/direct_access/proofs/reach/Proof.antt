@@ -11,15 +11,6 @@ use borrow.Author.Needs.{needs}
 use Rattle.direct_access.proofs.reach.Statement.{statement}
 use Rattle.direct_access.proofs.reach.Tie as tie
 
-admit-requires : tie.Need-admit-requires
-admit-requires c κs = search needs
-
-enum-known-answer : tie.Need-enum-known-answer
-enum-known-answer c = search needs
-
-enum-told : tie.Need-enum-told
-enum-told c = search needs
-
 abbrev start : tie.After-enum-told → tie.Start
 start t = t .before .before .before .before
 
@@ -31,12 +22,6 @@ returns c =
     let t = c .before in
     let o = start t .args in
     sym (past-map _ _ _ (o .session .phase) (o .address) (accepted t) (rw map1-limit (c .if1 .taken)))
-
-number-at-requires : tie.Need-number-at-requires
-number-at-requires c κs = search needs
-
-partition-of-requires : tie.Need-partition-of-requires
-partition-of-requires c κs = search needs
 
 returns-2 : tie.Need-returns-2
 returns-2 c =
@@ -57,11 +42,11 @@ pub reach-spec : {M : Type 1} → statement M
 reach-spec =
     tie.close
     (tie.spec
-    admit-requires
-    enum-known-answer
-    enum-told
+    (λ c κs. search needs)
+    (λ c. search needs)
+    (λ c. search needs)
     returns
-    number-at-requires
-    partition-of-requires
+    (λ c κs. search needs)
+    (λ c κs. search needs)
     returns-2
     returns-3)

@@ -11,18 +11,6 @@ use borrow.Author.Needs.{needs}
 use Rattle.direct_access.proofs.read.Statement.{statement}
 use Rattle.direct_access.proofs.read.Tie as tie
 
-reach-requires : tie.Need-reach-requires
-reach-requires c κs = search needs
-
-enum-known-answer : tie.Need-enum-known-answer
-enum-known-answer c = search needs
-
-enum-known-number : tie.Need-enum-known-number
-enum-known-number c = search needs
-
-may-read-requires : tie.Need-may-read-requires
-may-read-requires c κs = search needs
-
 -- what is lent, and the place that was reached
 abbrev start : tie.After-reach → tie.Start
 start r = r .before .before .before .before
@@ -53,10 +41,10 @@ pub read-spec : {M : Type 1} → statement M
 read-spec =
     tie.close
     (tie.spec
-    reach-requires
-    enum-known-answer
-    enum-known-number
-    may-read-requires
+    (λ c κs. search needs)
+    (λ c. search needs)
+    (λ c. search needs)
+    (λ c κs. search needs)
     returns
     read-value-requires
     returns-2

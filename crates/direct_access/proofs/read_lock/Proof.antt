@@ -14,21 +14,6 @@ use borrow.Author.Needs.{needs}
 use Rattle.direct_access.proofs.read_lock.Statement.{statement}
 use Rattle.direct_access.proofs.read_lock.Tie as tie
 
-admit-requires : tie.Need-admit-requires
-admit-requires c κs = search needs
-
-enum-known-answer : tie.Need-enum-known-answer
-enum-known-answer c = search needs
-
-enum-told : tie.Need-enum-told
-enum-told c = search needs
-
-partition-of-requires : tie.Need-partition-of-requires
-partition-of-requires c κs = search needs
-
-rights-requires : tie.Need-rights-requires
-rights-requires c κs = search needs
-
 abbrev lent : tie.Start → Machine
 lent s = machineOf (s .args .cells .now) (s .args .copy .now) (s .args .constants .now) (s .args .session)
 
@@ -64,11 +49,11 @@ pub read-lock-spec : {M : Type 1} → statement M
 read-lock-spec =
     tie.close
     (tie.spec
-    admit-requires
-    enum-known-answer
-    enum-told
-    partition-of-requires
-    rights-requires
+    (λ c κs. search needs)
+    (λ c. search needs)
+    (λ c. search needs)
+    (λ c κs. search needs)
+    (λ c κs. search needs)
     returns
     element-write-locked
     returns-2

@@ -10,16 +10,10 @@ use borrow.Author.Needs.{needs}
 use Rattle.direct_access.proofs.read_value.Statement.{statement}
 use Rattle.direct_access.proofs.read_value.Tie as tie
 
-granule-requires : tie.Need-granule-requires
-granule-requires c κs = search needs
-
 returns : tie.Need-returns
 unfolding readValue inDigest
 returns c =
     c .before .before .granule .ensures ∙ sym (if-true _ _ (le-leb _ _ (c .if1 .taken)))
-
-unscrambled-requires : tie.Need-unscrambled-requires
-unscrambled-requires c κs = search needs
 
 returns-2 : tie.Need-returns-2
 unfolding readValue inDigest
@@ -31,4 +25,4 @@ returns-2 c =
     ∙ sym (if-false _ _ (lt-leb _ _ (c .before .if1 .left)))
 
 pub read-value-spec : {M : Type 1} → statement M
-read-value-spec = tie.close (tie.spec granule-requires returns unscrambled-requires returns-2)
+read-value-spec = tie.close (tie.spec (λ c κs. search needs) returns (λ c κs. search needs) returns-2)

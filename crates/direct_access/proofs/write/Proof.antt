@@ -25,18 +25,6 @@ use borrow.Author.Needs.{needs}
 use Rattle.direct_access.proofs.write.Statement.{statement}
 use Rattle.direct_access.proofs.write.Tie as tie
 
-reach-requires : tie.Need-reach-requires
-reach-requires c κs = search needs
-
-enum-known-answer : tie.Need-enum-known-answer
-enum-known-answer c = search needs
-
-enum-known-number : tie.Need-enum-known-number
-enum-known-number c = search needs
-
-may-write-requires : tie.Need-may-write-requires
-may-write-requires c κs = search needs
-
 -- what is lent, and the place that was reached
 abbrev start : tie.After-reach → tie.Start
 start r = r .before .before .before .before
@@ -52,15 +40,6 @@ at-place t = sym (t .before .before .reach .ensures) ∙ t .number .given .1
 
 returns : tie.Need-returns
 returns c = denied (write-decided _ _ _) (at-place (c .before .before .before)) (sym (c .before .may-write .ensures) ∙ not-true _ (c .if1 .taken))
-
-granule-at-requires : tie.Need-granule-at-requires
-granule-at-requires c κs = search needs
-
-scrambled-requires : tie.Need-scrambled-requires
-scrambled-requires c κs = search needs
-
-split-requires : tie.Need-split-requires
-split-requires c κs = search needs
 
 few : (t : tie.After-granule-at) → t .granule-at .result .words ≤ 4
 few t = let h = held _ _ _ _ _ _ _ (at-place (t .before .before .before .before)) in omega (arith, h .few, t .granule-at .ensures .1)
@@ -82,17 +61,8 @@ slice-aggregate-program c =
     let t = c .before .before in
     sym (length-take-le _ (t .split .result) (rw (t .split .ensures, length-words 4) (few (t .before .before))))
 
-program-requires : tie.Need-program-requires
-program-requires c κs = search needs
-
-answer-of-requires : tie.Need-answer-of-requires
-answer-of-requires c κs = search needs
-
 returns-2 : tie.Need-returns-2
 returns-2 c = stopped (write-decided _ _ _) (sym (c .before .before .before .reach .ensures) ∙ c .before .answer .given .1)
-
-same-length : tie.Need-same-length
-same-length c = search needs
 
 returns-3 : tie.Need-returns-3
 returns-3 c =
@@ -108,18 +78,18 @@ pub write-spec : {M : Type 1} → statement M
 write-spec =
     tie.close
     (tie.spec
-    reach-requires
-    enum-known-answer
-    enum-known-number
-    may-write-requires
+    (λ c κs. search needs)
+    (λ c. search needs)
+    (λ c. search needs)
+    (λ c κs. search needs)
     returns
-    granule-at-requires
-    scrambled-requires
-    split-requires
+    (λ c κs. search needs)
+    (λ c κs. search needs)
+    (λ c κs. search needs)
     array-share-prefix-words
     slice-aggregate-program
-    program-requires
-    answer-of-requires
+    (λ c κs. search needs)
+    (λ c κs. search needs)
     returns-2
-    same-length
+    (λ c. search needs)
     returns-3)

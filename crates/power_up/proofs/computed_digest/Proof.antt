@@ -7,21 +7,6 @@ use borrow.Author.Needs.{needs}
 use Rattle.power_up.proofs.computed_digest.Statement.{statement}
 use Rattle.power_up.proofs.computed_digest.Tie as tie
 
-mul-digest-of : tie.Need-mul-digest-of
-mul-digest-of c = search needs
-
-sub-digest-of : tie.Need-sub-digest-of
-sub-digest-of c = search needs
-
-part-digest-of-start : tie.Need-part-digest-of-start
-part-digest-of-start c = search needs
-
-part-digest-of-end : tie.Need-part-digest-of-end
-part-digest-of-end c = search needs
-
-digest-of-requires : tie.Need-digest-of-requires
-digest-of-requires c κs = search needs
-
 returns : tie.Need-returns
 returns c =
     let o = c .before .before .before .before .before .before in
@@ -31,9 +16,9 @@ pub computed-digest-spec : {M : Type 1} → statement M
 computed-digest-spec =
     tie.close
     (tie.spec
-    mul-digest-of
-    sub-digest-of
-    part-digest-of-start
-    part-digest-of-end
-    digest-of-requires
+    (λ c. search needs)
+    (λ c. search needs)
+    (λ c. search needs)
+    (λ c. search needs)
+    (λ c κs. search needs)
     returns)

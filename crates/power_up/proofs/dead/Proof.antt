@@ -4,14 +4,8 @@ use borrow.Author.Needs.{needs}
 use Rattle.power_up.proofs.dead.Statement.{statement}
 use Rattle.power_up.proofs.dead.Tie as tie
 
-clear-requires : tie.Need-clear-requires
-clear-requires c κs = search needs
-
-same-length : tie.Need-same-length
-same-length c = search needs
-
 returns : tie.Need-returns
 returns c = (c .before .before .clear .ensures, refl)
 
 pub dead-spec : {M : Type 1} → statement M
-dead-spec = tie.close (tie.spec clear-requires same-length returns)
+dead-spec = tie.close (tie.spec (λ c κs. search needs) (λ c. search needs) returns)

@@ -16,14 +16,8 @@ use Rattle.power_up.proofs.digest_holds.Tie as tie
 due : (t : tie.After-rights) {b : Bool} → t .rights .result .hardware ≡ b → rightsOf (t .before .before .before .args .partition .kind) .hardware ≡ b
 due t e = sym (ap (λ (r : Rights). r .hardware) (t .rights .ensures)) ∙ e
 
-rights-requires : tie.Need-rights-requires
-rights-requires c κs = search needs
-
 returns : tie.Need-returns
 returns c = none-due primitives map1 _ _ _ (due (c .before .before) (not-true _ (c .if1 .taken)))
-
-stored-digest-requires : tie.Need-stored-digest-requires
-stored-digest-requires c κs = search needs
 
 returns-2 : tie.Need-returns-2
 returns-2 c =
@@ -31,9 +25,6 @@ returns-2 c =
     let a = t .before .before .before .args in
     none-stored primitives map1 (a .constants .now) (a .cells .now) (a .partition) (due t (not-false _ (c .before .before .if1 .left)))
     (sym (c .before .stored-digest .ensures) ∙ c .if2 .taken)
-
-computed-digest-requires : tie.Need-computed-digest-requires
-computed-digest-requires c κs = search needs
 
 returns-3 : tie.Need-returns-3
 returns-3 c =
@@ -46,9 +37,9 @@ pub digest-holds-spec : {M : Type 1} → statement M
 digest-holds-spec =
     tie.close
     (tie.spec
-    rights-requires
+    (λ c κs. search needs)
     returns
-    stored-digest-requires
+    (λ c κs. search needs)
     returns-2
-    computed-digest-requires
+    (λ c κs. search needs)
     returns-3)

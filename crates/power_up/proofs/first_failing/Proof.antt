@@ -26,9 +26,6 @@ abbrev μ-loop : tie.MeasureT-loop
 loop-holds : tie.Need-loop-holds Inv-loop μ-loop
 loop-holds c = (omega arith, refl)
 
-partition-of-requires : tie.Need-partition-of-requires Inv-loop μ-loop
-partition-of-requires c κs = search needs
-
 digest-holds-requires : tie.Need-digest-holds-requires Inv-loop μ-loop
 digest-holds-requires c κs =
     let w = data-within map1 map1-fit {n = c .before .before .loop .number} (rw map1-length (omega arith)) in
@@ -53,12 +50,6 @@ returns c =
     let t = c .before in
     sym (ap verdictIn (loop t .loop .inv .1 ∙ check-stop primitives map1 _ _ (loop t .loop .number) (known t) (sym (holds t) ∙ not-true _ (c .if1 .taken))))
 
-add-number : tie.Need-add-number Inv-loop μ-loop
-add-number c = search needs
-
-loop-less : tie.Need-loop-less Inv-loop μ-loop
-loop-less c = search needs
-
 loop-again : tie.Need-loop-again Inv-loop μ-loop
 loop-again c =
     let t = c .before in
@@ -78,10 +69,10 @@ first-failing-spec =
     Inv-loop
     μ-loop
     loop-holds
-    partition-of-requires
+    (λ c κs. search needs)
     digest-holds-requires
     returns
-    add-number
-    loop-less
+    (λ c. search needs)
+    (λ c. search needs)
     loop-again
     returns-2)

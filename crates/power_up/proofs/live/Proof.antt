@@ -30,57 +30,12 @@ module _ (t : tie.After-decode) where
   decided : {w : Waking} → byLife lent ≡ w → wokenResult (λ l. w) lent ≡ wokenResult byLife lent
   decided e = sym (woken-as byLife lent e)
 
-sub-decode : tie.Need-sub-decode
-sub-decode c = search needs
-
-part-decode-start : tie.Need-part-decode-start
-part-decode-start c = search needs
-
-part-decode-end : tie.Need-part-decode-end
-part-decode-end c = search needs
-
-sub-decode-2 : tie.Need-sub-decode-2
-sub-decode-2 c = search needs
-
-part-decode-start-2 : tie.Need-part-decode-start-2
-part-decode-start-2 c = search needs
-
-part-decode-end-2 : tie.Need-part-decode-end-2
-part-decode-end-2 c = search needs
-
-decode-requires : tie.Need-decode-requires
-decode-requires c κs = search needs
-
-enum-told : tie.Need-enum-told
-enum-told c = search needs
-
-dead-requires : tie.Need-dead-requires
-dead-requires c κs = search needs
-
-enum-known-state : tie.Need-enum-known-state
-enum-known-state c = search needs
-
-value-of-requires : tie.Need-value-of-requires
-value-of-requires c κs = search needs
-
-dead-requires-2 : tie.Need-dead-requires-2
-dead-requires-2 c κs = search needs
-
-ready-requires : tie.Need-ready-requires
-ready-requires c κs = search needs
-
-same-length : tie.Need-same-length
-same-length c = search needs
-
 returns : tie.Need-returns
 returns c =
     let d = c .before .before in
     let g = d .before .before in
     let t = g .before .before in
     dead-result byLife (lent t) (invalid (lent t) (sym (g .enum-told .given .1) ∙ life t)) (start t .pre .1) (d .dead .ensures .0) (d .dead .ensures .1)
-
-same-length-2 : tie.Need-same-length-2
-same-length-2 c = search needs
 
 returns-2 : tie.Need-returns-2
 returns-2 c =
@@ -91,9 +46,6 @@ returns-2 c =
     let outcome = d .dead2 .ensures .1 ∙ ap (λ (x : ℕ). deadOutcome reason.LifeCycleFailed (LifeCycleFailed x)) (v .value-of .ensures) in
     let scrap = scrapped (lent t) _ _ (sym (s .state .given .1) ∙ life t) (v .before .if1 .taken) in
     dead-result byLife (lent t) scrap (start t .pre .1) (d .dead2 .ensures .0) outcome
-
-same-length-3 : tie.Need-same-length-3
-same-length-3 c = search needs
 
 returns-3 : tie.Need-returns-3
 returns-3 c =
@@ -107,22 +59,22 @@ pub live-spec : {M : Type 1} → statement M
 live-spec =
     tie.close
     (tie.spec
-    sub-decode
-    part-decode-start
-    part-decode-end
-    sub-decode-2
-    part-decode-start-2
-    part-decode-end-2
-    decode-requires
-    enum-told
-    dead-requires
-    enum-known-state
-    value-of-requires
-    dead-requires-2
-    ready-requires
-    same-length
+    (λ c. search needs)
+    (λ c. search needs)
+    (λ c. search needs)
+    (λ c. search needs)
+    (λ c. search needs)
+    (λ c. search needs)
+    (λ c κs. search needs)
+    (λ c. search needs)
+    (λ c κs. search needs)
+    (λ c. search needs)
+    (λ c κs. search needs)
+    (λ c κs. search needs)
+    (λ c κs. search needs)
+    (λ c. search needs)
     returns
-    same-length-2
+    (λ c. search needs)
     returns-2
-    same-length-3
+    (λ c. search needs)
     returns-3)

@@ -17,15 +17,6 @@ module _ (t : tie.After-judge) where
   abbrev machine : Machine
   machine = machineOf (start .args .cells .now) (start .args .copy .now) (start .args .constants .now) (start .args .session)
 
-judge-requires : tie.Need-judge-requires
-judge-requires c κs = search needs
-
-enum-known-answer : tie.Need-enum-known-answer
-enum-known-answer c = search needs
-
-enum-told : tie.Need-enum-told
-enum-told c = search needs
-
 woken-requires : tie.Need-woken-requires
 woken-requires c κs =
     let t = c .before .before .before in
@@ -37,9 +28,6 @@ returns c =
     let t = c .before .before .before in
     refused-step PowerUp (machine t) _ (sym (t .judge .ensures) ∙ c .before .answer .given .1)
 
-same-length : tie.Need-same-length
-same-length c = search needs
-
 returns-2 : tie.Need-returns-2
 returns-2 c =
     let t = c .before .before .before .before .before .before in
@@ -50,10 +38,10 @@ pub power-up-spec : {M : Type 1} → statement M
 power-up-spec =
     tie.close
     (tie.spec
-    judge-requires
-    enum-known-answer
-    enum-told
+    (λ c κs. search needs)
+    (λ c. search needs)
+    (λ c. search needs)
     woken-requires
     returns
-    same-length
+    (λ c. search needs)
     returns-2)

@@ -5,18 +5,6 @@ use Rattle.power_up.specs.Waking.{lentOf}
 use Rattle.power_up.proofs.ready.Statement.{statement}
 use Rattle.power_up.proofs.ready.Tie as tie
 
-latch-requires : tie.Need-latch-requires
-latch-requires c κs = search needs
-
-stored-digests-requires : tie.Need-stored-digests-requires
-stored-digests-requires c κs = search needs
-
-value-of-requires : tie.Need-value-of-requires
-value-of-requires c κs = search needs
-
-same-length : tie.Need-same-length
-same-length c = search needs
-
 returns : tie.Need-returns
 returns c =
     let s = c .before in
@@ -28,4 +16,4 @@ returns c =
 pub ready-spec : {M : Type 1} → statement M
 ready-spec =
     tie.close
-    (tie.spec latch-requires stored-digests-requires value-of-requires same-length returns)
+    (tie.spec (λ c κs. search needs) (λ c κs. search needs) (λ c κs. search needs) (λ c. search needs) returns)

@@ -48,28 +48,10 @@ module _ (t : tie.After-rights) where
   small : Words cells
   small = record { small = λ i. omega (arith, t .before .before .before .before .shared-slice-known .given i) }
 
-mul-address : tie.Need-mul-address
-mul-address c = search needs
-
-number-at-requires : tie.Need-number-at-requires
-number-at-requires c κs = search needs
-
-partition-of-requires : tie.Need-partition-of-requires
-partition-of-requires c κs = search needs
-
-rights-requires : tie.Need-rights-requires
-rights-requires c κs = search needs
-
 returns : tie.Need-returns
 returns c =
     let t = c .before in
     zero-block primitives map1 map1-fit _ _ (at t) (start t .pre .0) (known t) (lockable t (c .if1 .taken))
-
-block-at-requires : tie.Need-block-at-requires
-block-at-requires c κs = search needs
-
-split-requires : tie.Need-split-requires
-split-requires c κs = search needs
 
 returns-2 : tie.Need-returns-2
 returns-2 c =
@@ -79,12 +61,6 @@ returns-2 c =
     ∙ ap (wordsOf 4) (j .block-at .ensures)
     ∙ digest-block primitives map1 map1-fit _ _ (at t) (start t .pre .0) (known t) (small t) (lockable t (j .before .if1 .left))
     (side t (le-leb _ _ (c .before .if2 .taken)))
-
-unscrambled-requires : tie.Need-unscrambled-requires
-unscrambled-requires c κs = search needs
-
-split-requires-2 : tie.Need-split-requires-2
-split-requires-2 c κs = search needs
 
 returns-3 : tie.Need-returns-3
 returns-3 c =
@@ -100,14 +76,14 @@ pub sensed-block-spec : {M : Type 1} → statement M
 sensed-block-spec =
     tie.close
     (tie.spec
-    mul-address
-    number-at-requires
-    partition-of-requires
-    rights-requires
+    (λ c. search needs)
+    (λ c κs. search needs)
+    (λ c κs. search needs)
+    (λ c κs. search needs)
     returns
-    block-at-requires
-    split-requires
+    (λ c κs. search needs)
+    (λ c κs. search needs)
     returns-2
-    unscrambled-requires
-    split-requires-2
+    (λ c κs. search needs)
+    (λ c κs. search needs)
     returns-3)

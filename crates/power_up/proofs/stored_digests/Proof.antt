@@ -21,24 +21,6 @@ abbrev μ-loop : tie.MeasureT-loop
 loop-holds : tie.Need-loop-holds Inv-loop μ-loop
 loop-holds c = follows-none refl
 
-partition-of-requires : tie.Need-partition-of-requires Inv-loop μ-loop
-partition-of-requires c κs = search needs
-
-stored-digest-requires : tie.Need-stored-digest-requires Inv-loop μ-loop
-stored-digest-requires c κs = search needs
-
-mul-digests : tie.Need-mul-digests Inv-loop μ-loop
-mul-digests c = search needs
-
-array-write-digests : tie.Need-array-write-digests Inv-loop μ-loop
-array-write-digests c = search needs
-
-add-number : tie.Need-add-number Inv-loop μ-loop
-add-number c = search needs
-
-loop-less : tie.Need-loop-less Inv-loop μ-loop
-loop-less c = search needs
-
 loop-again : tie.Need-loop-again Inv-loop μ-loop
 loop-again c =
     let l = c .before .before .before in
@@ -58,11 +40,11 @@ stored-digests-spec =
     Inv-loop
     μ-loop
     loop-holds
-    partition-of-requires
-    stored-digest-requires
-    mul-digests
-    array-write-digests
-    add-number
-    loop-less
+    (λ c κs. search needs)
+    (λ c κs. search needs)
+    (λ c. search needs)
+    (λ c. search needs)
+    (λ c. search needs)
+    (λ c. search needs)
     loop-again
     returns)

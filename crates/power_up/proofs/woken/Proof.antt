@@ -17,33 +17,12 @@ module _ (t : tie.After-first-failing) where
   abbrev lent : Lent
   lent = lentOf (start .args .cells .now) (start .args .copy .now) (start .args .constants .now)
 
-first-failing-requires : tie.Need-first-failing-requires
-first-failing-requires c κs = search needs
-
-enum-known-number : tie.Need-enum-known-number
-enum-known-number c = search needs
-
-dead-requires : tie.Need-dead-requires
-dead-requires c κs = search needs
-
-enum-told : tie.Need-enum-told
-enum-told c = search needs
-
-live-requires : tie.Need-live-requires
-live-requires c κs = search needs
-
-same-length : tie.Need-same-length
-same-length c = search needs
-
 returns : tie.Need-returns
 returns c =
     let d = c .before .before in
     let t = d .before .before .before .before .before in
     let told = sym (d .before .before .before .number .given .1) ∙ t .first-failing .ensures in
     dead-result (waking primitives map1) (lent t) (failed (lent t) _ told) (start t .pre .1) (d .dead .ensures .0) (d .dead .ensures .1)
-
-same-length-2 : tie.Need-same-length-2
-same-length-2 c = search needs
 
 returns-2 : tie.Need-returns-2
 returns-2 c =
@@ -56,12 +35,12 @@ pub woken-spec : {M : Type 1} → statement M
 woken-spec =
     tie.close
     (tie.spec
-    first-failing-requires
-    enum-known-number
-    dead-requires
-    enum-told
-    live-requires
-    same-length
+    (λ c κs. search needs)
+    (λ c. search needs)
+    (λ c κs. search needs)
+    (λ c. search needs)
+    (λ c κs. search needs)
+    (λ c. search needs)
     returns
-    same-length-2
+    (λ c. search needs)
     returns-2)

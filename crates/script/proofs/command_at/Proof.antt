@@ -16,9 +16,6 @@ four-at-requires-2 : tie.Need-four-at-requires-2
 unfolding bodyLength if_then_else_
 four-at-requires-2 c κs = omega (arith, ap bodyLength (c .match .keys2))
 
-add-eight-at : tie.Need-add-eight-at
-add-eight-at c = search needs
-
 eight-at-requires : tie.Need-eight-at-requires
 unfolding bodyLength if_then_else_
 eight-at-requires c κs = omega (arith, ap bodyLength (c .before .match .keys2))
@@ -39,15 +36,9 @@ shared-slice-read-t14 : tie.Need-shared-slice-read-t14
 unfolding bodyLength if_then_else_
 shared-slice-read-t14 c = omega (arith, ap bodyLength (c .before .match .keys6))
 
-add-eight-at-2 : tie.Need-add-eight-at-2
-add-eight-at-2 c = search needs
-
 eight-at-requires-2 : tie.Need-eight-at-requires-2
 unfolding bodyLength if_then_else_
 eight-at-requires-2 c κs = omega (arith, ap bodyLength (c .before .match .keys6))
-
-add-eight-at-3 : tie.Need-add-eight-at-3
-add-eight-at-3 c = search needs
 
 eight-at-requires-3 : tie.Need-eight-at-requires-3
 unfolding bodyLength if_then_else_
@@ -90,15 +81,15 @@ command-at-spec =
     (tie.spec
     four-at-requires
     four-at-requires-2
-    add-eight-at
+    (λ c. search needs)
     eight-at-requires
     four-at-requires-3
     four-at-requires-4
     shared-slice-read-t12
     shared-slice-read-t14
-    add-eight-at-2
+    (λ c. search needs)
     eight-at-requires-2
-    add-eight-at-3
+    (λ c. search needs)
     eight-at-requires-3
     returns
     returns-2

@@ -6,15 +6,6 @@ use Rattle.script.specs.Lines.{digitByte}
 use Rattle.script.proofs.digit_byte.Statement.{statement}
 use Rattle.script.proofs.digit_byte.Tie as tie
 
-cast-d : tie.Need-cast-d
-cast-d c = search needs
-
-add-result : tie.Need-add-result
-add-result c = search needs
-
-add-result-2 : tie.Need-add-result-2
-add-result-2 c = search needs
-
 returns : tie.Need-returns
 unfolding digitByte if_then_else_
 returns c = simp (lt-ltb _ _ (c .if1 .taken))
@@ -24,4 +15,4 @@ unfolding digitByte if_then_else_
 returns-2 c = simp (le-ltb _ _ (c .if1 .left))
 
 pub digit-byte-spec : {M : Type 1} → statement M
-digit-byte-spec = tie.close (tie.spec cast-d add-result add-result-2 returns returns-2)
+digit-byte-spec = tie.close (tie.spec (λ c. search needs) (λ c. search needs) (λ c. search needs) returns returns-2)

@@ -5,27 +5,6 @@ use Rattle.script.proofs.Numbers.{eight-bytes}
 use Rattle.script.proofs.eight_at.Statement.{statement}
 use Rattle.script.proofs.eight_at.Tie as tie
 
-four-at-requires : tie.Need-four-at-requires
-four-at-requires c κs = search needs
-
-wider-requires : tie.Need-wider-requires
-wider-requires c κs = search needs
-
-add-four-at : tie.Need-add-four-at
-add-four-at c = search needs
-
-four-at-requires-2 : tie.Need-four-at-requires-2
-four-at-requires-2 c κs = search needs
-
-wider-requires-2 : tie.Need-wider-requires-2
-wider-requires-2 c κs = search needs
-
-mul-result : tie.Need-mul-result
-mul-result c = search needs
-
-add-result : tie.Need-add-result
-add-result c = search needs
-
 returns : tie.Need-returns
 returns c = rw eight-bytes (omega arith)
 
@@ -33,11 +12,11 @@ pub eight-at-spec : {M : Type 1} → statement M
 eight-at-spec =
     tie.close
     (tie.spec
-    four-at-requires
-    wider-requires
-    add-four-at
-    four-at-requires-2
-    wider-requires-2
-    mul-result
-    add-result
+    (λ c κs. search needs)
+    (λ c κs. search needs)
+    (λ c. search needs)
+    (λ c κs. search needs)
+    (λ c κs. search needs)
+    (λ c. search needs)
+    (λ c. search needs)
     returns)

@@ -12,38 +12,14 @@ use Rattle.script.proofs.Lines.{zeros, end-length, end-written}
 use Rattle.script.proofs.end_line.Statement.{statement}
 use Rattle.script.proofs.end_line.Tie as tie
 
-array-write-bytes : tie.Need-array-write-bytes
-array-write-bytes c = search needs
-
-array-write-bytes-2 : tie.Need-array-write-bytes-2
-array-write-bytes-2 c = search needs
-
-array-write-bytes-3 : tie.Need-array-write-bytes-3
-array-write-bytes-3 c = search needs
-
-array-write-bytes-4 : tie.Need-array-write-bytes-4
-array-write-bytes-4 c = search needs
-
-decimal-length-requires : tie.Need-decimal-length-requires
-decimal-length-requires c κs = search needs
-
 few : (t : tie.After-decimal-length) → t .decimal-length .result ≤ 20
 few t = rw (t .decimal-length .ensures) (decimal-short 20 _)
 
 add-end : tie.Need-add-end
 add-end c = let b = few c in omega arith
 
-sub-put-digits : tie.Need-sub-put-digits
-sub-put-digits c = search needs
-
-part-bytes-start : tie.Need-part-bytes-start
-part-bytes-start c = search needs
-
 part-bytes-end : tie.Need-part-bytes-end
 part-bytes-end c = let b = few c in omega arith
-
-put-digits-requires : tie.Need-put-digits-requires
-put-digits-requires c κs = search needs
 
 array-write-bytes-5 : tie.Need-array-write-bytes-5
 array-write-bytes-5 c = let b = few (c .before .before .before) in omega arith
@@ -68,16 +44,16 @@ pub end-line-spec : {M : Type 1} → statement M
 end-line-spec =
     tie.close
     (tie.spec
-    array-write-bytes
-    array-write-bytes-2
-    array-write-bytes-3
-    array-write-bytes-4
-    decimal-length-requires
+    (λ c. search needs)
+    (λ c. search needs)
+    (λ c. search needs)
+    (λ c. search needs)
+    (λ c κs. search needs)
     add-end
-    sub-put-digits
-    part-bytes-start
+    (λ c. search needs)
+    (λ c. search needs)
     part-bytes-end
-    put-digits-requires
+    (λ c κs. search needs)
     array-write-bytes-5
     add-t12
     returns)

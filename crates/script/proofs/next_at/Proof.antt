@@ -14,18 +14,9 @@ returns c = sym (too-long _ _ (c .if1 .taken))
 returns-2 : tie.Need-returns-2
 returns-2 c = sym (at-end _ _ (c .before .if1 .left) (c .if2 .taken))
 
-shared-slice-read-kind : tie.Need-shared-slice-read-kind
-shared-slice-read-kind c = search needs
-
 returns-3 : tie.Need-returns-3
 unfolding unknown
 returns-3 c = sym (unknown-kind _ _ (c .before .before .before .if1 .left) (c .before .before .if2 .left) (c .if3 .taken))
-
-add-next : tie.Need-add-next
-add-next c = search needs
-
-body-length-requires : tie.Need-body-length-requires
-body-length-requires c κs = search needs
 
 add-next-2 : tie.Need-add-next-2
 add-next-2 c = let b : c .body-length .result ≤ 17 = rw (c .body-length .ensures) (body-short _) in omega arith
@@ -36,12 +27,6 @@ returns-4 c =
     let e = c .before .before in
     let t = c .if4 .taken in
     sym (cut-short _ _ (e .before .before .before .if1 .left) (e .before .before .if2 .left) (e .if3 .left) (rw (c .before .body-length .ensures) at t))
-
-add-command-at : tie.Need-add-command-at
-add-command-at c = search needs
-
-command-at-requires : tie.Need-command-at-requires
-command-at-requires c κs = search needs
 
 returns-5 : tie.Need-returns-5
 unfolding unknown
@@ -58,12 +43,12 @@ next-at-spec =
     (tie.spec
     returns
     returns-2
-    shared-slice-read-kind
+    (λ c. search needs)
     returns-3
-    add-next
-    body-length-requires
+    (λ c. search needs)
+    (λ c κs. search needs)
     add-next-2
     returns-4
-    add-command-at
-    command-at-requires
+    (λ c. search needs)
+    (λ c κs. search needs)
     returns-5)

@@ -7,12 +7,6 @@ use Rattle.script.proofs.Records.{other-place}
 use Rattle.script.proofs.place_after.Statement.{statement}
 use Rattle.script.proofs.place_after.Tie as tie
 
-next-at-requires : tie.Need-next-at-requires
-next-at-requires c κs = search needs
-
-enum-known-next : tie.Need-enum-known-next
-enum-known-next c = search needs
-
 returns : tie.Need-returns
 returns c =
     let p = c .before .before .before .args .place in
@@ -24,4 +18,4 @@ returns-2 c =
     ap (λ (n : Reading). placeAfter n p) (sym (c .before .next .given .1) ∙ c .before .before .before .next-at .ensures)
 
 pub place-after-spec : {M : Type 1} → statement M
-place-after-spec = tie.close (tie.spec next-at-requires enum-known-next returns returns-2)
+place-after-spec = tie.close (tie.spec (λ c κs. search needs) (λ c. search needs) returns returns-2)

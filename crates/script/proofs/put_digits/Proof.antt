@@ -21,23 +21,8 @@ loop-holds c =
     let n = digits-none (c .before .args .base) (c .before .args .x) (c .before .args .part .now) in
     (omega arith, omega arith, n .0, n .1)
 
-sub-i : tie.Need-sub-i Inv-loop μ-loop
-sub-i c = omega arith
-
-rem-digit-byte : tie.Need-rem-digit-byte Inv-loop μ-loop
-rem-digit-byte c = omega arith
-
 digit-byte-requires : tie.Need-digit-byte-requires Inv-loop μ-loop
 digit-byte-requires c κs = omega (arith, mod-lt (c .before .loop .rest) {m = c .before .before .before .args .base} (omega arith))
-
-slice-write-part : tie.Need-slice-write-part Inv-loop μ-loop
-slice-write-part c = omega arith
-
-div-rest : tie.Need-div-rest Inv-loop μ-loop
-div-rest c = omega arith
-
-loop-less : tie.Need-loop-less Inv-loop μ-loop
-loop-less c = omega arith
 
 loop-again : tie.Need-loop-again Inv-loop μ-loop
 loop-again c =
@@ -66,12 +51,12 @@ put-digits-spec =
     Inv-loop
     μ-loop
     loop-holds
-    sub-i
-    rem-digit-byte
+    (λ c. omega arith)
+    (λ c. omega arith)
     digit-byte-requires
-    slice-write-part
-    div-rest
-    loop-less
+    (λ c. omega arith)
+    (λ c. omega arith)
+    (λ c. omega arith)
     loop-again
     same-length
     returns)

@@ -37,34 +37,16 @@ read c = is-read _ _ (found c)
 loop-holds : tie.Need-loop-holds Inv-loop μ-loop
 loop-holds c = (omega arith, omega arith, omega arith)
 
-next-at-requires : tie.Need-next-at-requires Inv-loop μ-loop
-next-at-requires c κs = search needs
-
-enum-known-reading : tie.Need-enum-known-reading Inv-loop μ-loop
-enum-known-reading c = search needs
-
-add-count : tie.Need-add-count Inv-loop μ-loop
-add-count c = omega arith
-
 loop-less : tie.Need-loop-less Inv-loop μ-loop
 loop-less c = let r = read c in omega (arith, r .above, r .within)
 
 loop-again : tie.Need-loop-again Inv-loop μ-loop
 loop-again c = let r = read c in (r .within, omega (arith, r .above), omega (arith, left-record (script (named c)) (place (named c)) (found c)))
 
-enum-told : tie.Need-enum-told Inv-loop μ-loop
-enum-told c = search needs
-
 returns : tie.Need-returns Inv-loop μ-loop
 returns c = λ image constants.
     let t = c .before .before in
     omega (arith, left-end (script t) (place t) (sym (t .next-at .ensures) ∙ c .enum-told .given .1), counted-lines (script t) image constants)
-
-enum-told-2 : tie.Need-enum-told-2 Inv-loop μ-loop
-enum-told-2 c = search needs
-
-add-result : tie.Need-add-result Inv-loop μ-loop
-add-result c = omega arith
 
 returns-2 : tie.Need-returns-2 Inv-loop μ-loop
 returns-2 c = λ image constants.
@@ -78,13 +60,13 @@ line-count-spec =
     Inv-loop
     μ-loop
     loop-holds
-    next-at-requires
-    enum-known-reading
-    add-count
+    (λ c κs. search needs)
+    (λ c. search needs)
+    (λ c. omega arith)
     loop-less
     loop-again
-    enum-told
+    (λ c. search needs)
     returns
-    enum-told-2
-    add-result
+    (λ c. search needs)
+    (λ c. omega arith)
     returns-2)

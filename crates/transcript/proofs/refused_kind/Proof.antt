@@ -6,21 +6,6 @@ use borrow.Author.Needs.{needs}
 use Rattle.transcript.proofs.refused_kind.Statement.{statement}
 use Rattle.transcript.proofs.refused_kind.Tie as tie
 
-enum-told : tie.Need-enum-told
-enum-told c = search needs
-
-byte-at-requires : tie.Need-byte-at-requires
-byte-at-requires c κs = search needs
-
-enum-told-2 : tie.Need-enum-told-2
-enum-told-2 c = search needs
-
-byte-at-requires-2 : tie.Need-byte-at-requires-2
-byte-at-requires-2 c κs = search needs
-
-enum-told-3 : tie.Need-enum-told-3
-enum-told-3 c = search needs
-
 by-refusal : (s : tie.Start) {refusal : Refusal} → let o = s .args in
     o .refusal ≡ refusal → refusedKind (o .script .now) refusal (o .place) ≡ refusedKind (o .script .now) (o .refusal) (o .place)
 by-refusal s e = ap (λ (r : Refusal). refusedKind (s .args .script .now) r (s .args .place)) (sym e)
@@ -41,11 +26,11 @@ pub refused-kind-spec : {M : Type 1} → statement M
 refused-kind-spec =
     tie.close
     (tie.spec
-    enum-told
-    byte-at-requires
-    enum-told-2
-    byte-at-requires-2
-    enum-told-3
+    (λ c. search needs)
+    (λ c κs. search needs)
+    (λ c. search needs)
+    (λ c κs. search needs)
+    (λ c. search needs)
     returns
     returns-2
     returns-3)

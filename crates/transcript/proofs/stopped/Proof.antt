@@ -6,24 +6,6 @@ use borrow.Author.Needs.{needs}
 use Rattle.transcript.proofs.stopped.Statement.{statement}
 use Rattle.transcript.proofs.stopped.Tie as tie
 
-enum-told : tie.Need-enum-told
-enum-told c = search needs
-
-ended-requires : tie.Need-ended-requires
-ended-requires c κs = search needs
-
-enum-told-2 : tie.Need-enum-told-2
-enum-told-2 c = search needs
-
-ended-requires-2 : tie.Need-ended-requires-2
-ended-requires-2 c κs = search needs
-
-enum-known-reading : tie.Need-enum-known-reading
-enum-known-reading c = search needs
-
-refused-requires : tie.Need-refused-requires
-refused-requires c κs = search needs
-
 by-reading : (s : tie.Start) {n : Reading} → let o = s .args in
     o .reading ≡ n → stoppedOf n (o .script .now) (o .place) (o .session) ≡ stoppedOf (o .reading) (o .script .now) (o .place) (o .session)
 by-reading s e = ap (λ (n : Reading). stoppedOf n (s .args .script .now) (s .args .place) (s .args .session)) (sym e)
@@ -41,12 +23,12 @@ pub stopped-spec : {M : Type 1} → statement M
 stopped-spec =
     tie.close
     (tie.spec
-    enum-told
-    ended-requires
-    enum-told-2
-    ended-requires-2
-    enum-known-reading
-    refused-requires
+    (λ c. search needs)
+    (λ c κs. search needs)
+    (λ c. search needs)
+    (λ c κs. search needs)
+    (λ c. search needs)
+    (λ c κs. search needs)
     returns
     returns-2
     returns-3)

@@ -7,15 +7,6 @@ use borrow.Author.Needs.{needs}
 use Rattle.transcript.proofs.turn.Statement.{statement}
 use Rattle.transcript.proofs.turn.Tie as tie
 
-next-at-requires : tie.Need-next-at-requires
-next-at-requires c κs = search needs
-
-enum-known-reading : tie.Need-enum-known-reading
-enum-known-reading c = search needs
-
-stopped-requires : tie.Need-stopped-requires
-stopped-requires c κs = search needs
-
 abbrev start : tie.After-next-at → tie.Start
 start t = t .before .before .before .before .before
 
@@ -26,27 +17,6 @@ returns c =
     let n = c .before .before .next-at .result in
     rw (c .stopped .ensures, ← c .before .before .next-at .ensures)
     (turn-stopped n (o .script .now) (o .place) (o .cells .now) (o .copy .now) (o .constants .now) (o .session) (c .before .match .keys2))
-
-execute-requires : tie.Need-execute-requires
-execute-requires c κs = search needs
-
-kind-of-requires : tie.Need-kind-of-requires
-kind-of-requires c κs = search needs
-
-code-requires : tie.Need-code-requires
-code-requires c κs = search needs
-
-value-requires : tie.Need-value-requires
-value-requires c κs = search needs
-
-line-requires : tie.Need-line-requires
-line-requires c κs = search needs
-
-same-length : tie.Need-same-length
-same-length c = search needs
-
-same-length-2 : tie.Need-same-length-2
-same-length-2 c = search needs
 
 returns-2 : tie.Need-returns-2
 returns-2 c =
@@ -76,15 +46,15 @@ pub turn-spec : {M : Type 1} → statement M
 turn-spec =
     tie.close
     (tie.spec
-    next-at-requires
-    enum-known-reading
-    stopped-requires
+    (λ c κs. search needs)
+    (λ c. search needs)
+    (λ c κs. search needs)
     returns
-    execute-requires
-    kind-of-requires
-    code-requires
-    value-requires
-    line-requires
-    same-length
-    same-length-2
+    (λ c κs. search needs)
+    (λ c κs. search needs)
+    (λ c κs. search needs)
+    (λ c κs. search needs)
+    (λ c κs. search needs)
+    (λ c. search needs)
+    (λ c. search needs)
     returns-2)

@@ -6,11 +6,8 @@ use borrow.Author.Needs.{needs}
 use Rattle.transition.proofs.dead.Statement.{statement}
 use Rattle.transition.proofs.dead.Tie as tie
 
-in-phase-requires : tie.Need-in-phase-requires
-in-phase-requires c κs = search needs
-
 returns : tie.Need-returns
 returns c = ap (λ (s : Session). record { session = s; answer = Cleared (c .before .args .cell) }) (c .in-phase .ensures)
 
 pub dead-spec : {M : Type 1} → statement M
-dead-spec = tie.close (tie.spec in-phase-requires returns)
+dead-spec = tie.close (tie.spec (λ c κs. search needs) returns)

@@ -5,11 +5,8 @@ use borrow.Author.Needs.{needs}
 use Rattle.transition.proofs.inert.Statement.{statement}
 use Rattle.transition.proofs.inert.Tie as tie
 
-in-phase-requires : tie.Need-in-phase-requires
-in-phase-requires c κs = search needs
-
 returns : tie.Need-returns
 returns c = ap (λ (s : Session). record { session = s; answer = c .before .args .answer }) (c .in-phase .ensures)
 
 pub inert-spec : {M : Type 1} → statement M
-inert-spec = tie.close (tie.spec in-phase-requires returns)
+inert-spec = tie.close (tie.spec (λ c κs. search needs) returns)

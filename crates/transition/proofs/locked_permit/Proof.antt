@@ -13,12 +13,6 @@ use borrow.Author.Needs.{needs}
 use Rattle.transition.proofs.locked_permit.Statement.{statement}
 use Rattle.transition.proofs.locked_permit.Tie as tie
 
-lock-of-requires : tie.Need-lock-of-requires
-lock-of-requires c κs = search needs
-
-sensed-at-requires : tie.Need-sensed-at-requires
-sensed-at-requires c κs = search needs
-
 sensed : (t : tie.After-sensed-at) → let o = t .before .before .before .args in
     t .sensed-at .result ≡ sensedAt (o .session) (numberOfKind map1 (tokenKind (o .token)))
 sensed t = let o = t .before .before .before .args in t .sensed-at .ensures ∙ ap (sensedAt (o .session)) (t .before .lock-of .ensures)
@@ -27,15 +21,6 @@ returns : tie.Need-returns
 returns c =
     let o = c .before .before .before .before .args in
     sym (not-locked (o .session) (o .copy .now) (o .token) _ (sym (sensed (c .before)) ∙ c .if1 .taken))
-
-place-of-requires : tie.Need-place-of-requires
-place-of-requires c κs = search needs
-
-eight-words-requires : tie.Need-eight-words-requires
-eight-words-requires c κs = search needs
-
-compared-requires : tie.Need-compared-requires
-compared-requires c κs = search needs
 
 returns-2 : tie.Need-returns-2
 unfolding tokenSame
@@ -52,10 +37,10 @@ pub locked-permit-spec : {M : Type 1} → statement M
 locked-permit-spec =
     tie.close
     (tie.spec
-    lock-of-requires
-    sensed-at-requires
+    (λ c κs. search needs)
+    (λ c κs. search needs)
     returns
-    place-of-requires
-    eight-words-requires
-    compared-requires
+    (λ c κs. search needs)
+    (λ c κs. search needs)
+    (λ c κs. search needs)
     returns-2)

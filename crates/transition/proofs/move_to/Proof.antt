@@ -12,30 +12,6 @@ use borrow.Author.Needs.{needs}
 use Rattle.transition.proofs.move_to.Statement.{statement}
 use Rattle.transition.proofs.move_to.Tie as tie
 
-state-words-requires : tie.Need-state-words-requires
-state-words-requires c κs = search needs
-
-slice-aggregate-program : tie.Need-slice-aggregate-program
-slice-aggregate-program c = search needs
-
-program-requires : tie.Need-program-requires
-program-requires c κs = search needs
-
-enum-told : tie.Need-enum-told
-enum-told c = search needs
-
-inert-requires : tie.Need-inert-requires
-inert-requires c κs = search needs
-
-enum-known-cell : tie.Need-enum-known-cell
-enum-known-cell c = search needs
-
-dead-requires : tie.Need-dead-requires
-dead-requires c κs = search needs
-
-same-length : tie.Need-same-length
-same-length c = search needs
-
 abbrev start : tie.After-program → tie.Start
 start q = q .before .before .before .before .before .before
 
@@ -54,9 +30,6 @@ returns c =
     let q = t .before .before .before .before in
     (c .inert .ensures ∙ ap (movedAs (start q .args .session)) (sym (t .enum-told .given .1) ∙ answered q .0), answered q .1)
 
-same-length-2 : tie.Need-same-length-2
-same-length-2 c = search needs
-
 returns-2 : tie.Need-returns-2
 returns-2 c =
     let t = c .before .before in
@@ -67,14 +40,14 @@ pub move-to-spec : {M : Type 1} → statement M
 move-to-spec =
     tie.close
     (tie.spec
-    state-words-requires
-    slice-aggregate-program
-    program-requires
-    enum-told
-    inert-requires
-    enum-known-cell
-    dead-requires
-    same-length
+    (λ c κs. search needs)
+    (λ c. search needs)
+    (λ c κs. search needs)
+    (λ c. search needs)
+    (λ c κs. search needs)
+    (λ c. search needs)
+    (λ c κs. search needs)
+    (λ c. search needs)
     returns
-    same-length-2
+    (λ c. search needs)
     returns-2)

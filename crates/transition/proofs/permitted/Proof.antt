@@ -14,45 +14,6 @@ use borrow.Author.Needs.{needs}
 use Rattle.transition.proofs.permitted.Statement.{statement}
 use Rattle.transition.proofs.permitted.Tie as tie
 
-transition-requires : tie.Need-transition-requires
-transition-requires c κs = search needs
-
-enum-told : tie.Need-enum-told
-enum-told c = search needs
-
-enum-known-token : tie.Need-enum-known-token
-enum-known-token c = search needs
-
-enum-told-2 : tie.Need-enum-told-2
-enum-told-2 c = search needs
-
-enum-told-3 : tie.Need-enum-told-3
-enum-told-3 c = search needs
-
-eight-words-requires : tie.Need-eight-words-requires
-eight-words-requires c κs = search needs
-
-compared-requires : tie.Need-compared-requires
-compared-requires c κs = search needs
-
-enum-told-4 : tie.Need-enum-told-4
-enum-told-4 c = search needs
-
-locked-permit-requires : tie.Need-locked-permit-requires
-locked-permit-requires c κs = search needs
-
-enum-told-5 : tie.Need-enum-told-5
-enum-told-5 c = search needs
-
-locked-permit-requires-2 : tie.Need-locked-permit-requires-2
-locked-permit-requires-2 c κs = search needs
-
-enum-told-6 : tie.Need-enum-told-6
-enum-told-6 c = search needs
-
-locked-permit-requires-3 : tie.Need-locked-permit-requires-3
-locked-permit-requires-3 c κs = search needs
-
 abbrev start : tie.After-token → tie.Start
 start t = t .before .before .before .before .before
 
@@ -109,19 +70,19 @@ pub permitted-spec : {M : Type 1} → statement M
 permitted-spec =
     tie.close
     (tie.spec
-    transition-requires
-    enum-told
-    enum-known-token
-    enum-told-2
-    enum-told-3
-    eight-words-requires
-    compared-requires
-    enum-told-4
-    locked-permit-requires
-    enum-told-5
-    locked-permit-requires-2
-    enum-told-6
-    locked-permit-requires-3
+    (λ c κs. search needs)
+    (λ c. search needs)
+    (λ c. search needs)
+    (λ c. search needs)
+    (λ c. search needs)
+    (λ c κs. search needs)
+    (λ c κs. search needs)
+    (λ c. search needs)
+    (λ c κs. search needs)
+    (λ c. search needs)
+    (λ c κs. search needs)
+    (λ c. search needs)
+    (λ c κs. search needs)
     returns
     returns-2
     returns-3

@@ -9,21 +9,6 @@ use borrow.Author.Needs.{needs}
 use Rattle.transition.proofs.spend.Statement.{statement}
 use Rattle.transition.proofs.spend.Tie as tie
 
-add-counter-words : tie.Need-add-counter-words
-add-counter-words c = search needs
-
-counter-words-requires : tie.Need-counter-words-requires
-counter-words-requires c κs = search needs
-
-slice-aggregate-program : tie.Need-slice-aggregate-program
-slice-aggregate-program c = search needs
-
-program-requires : tie.Need-program-requires
-program-requires c κs = search needs
-
-same-length : tie.Need-same-length
-same-length c = search needs
-
 returns : tie.Need-returns
 returns c =
     let q = c .before .before in
@@ -37,9 +22,9 @@ pub spend-spec : {M : Type 1} → statement M
 spend-spec =
     tie.close
     (tie.spec
-    add-counter-words
-    counter-words-requires
-    slice-aggregate-program
-    program-requires
-    same-length
+    (λ c. search needs)
+    (λ c κs. search needs)
+    (λ c. search needs)
+    (λ c κs. search needs)
+    (λ c. search needs)
     returns)

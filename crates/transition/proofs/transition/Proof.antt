@@ -17,12 +17,6 @@ use borrow.Author.Needs.{needs}
 use Rattle.transition.proofs.transition.Statement.{statement}
 use Rattle.transition.proofs.transition.Tie as tie
 
-admit-requires : tie.Need-admit-requires
-admit-requires c κs = search needs
-
-enum-known-answer : tie.Need-enum-known-answer
-enum-known-answer c = search needs
-
 abbrev lent : tie.Start → Machine
 lent s = machineOf (s .args .cells .now) (s .args .copy .now) (s .args .constants .now) (s .args .session)
 
@@ -55,9 +49,6 @@ returns c =
     let o = s .args in
     refused (Transition (o .target) (o .token-high) (o .token-low)) (lent s) tt _ (sym (t .admit .ensures) ∙ c .before .answer .given .1)
 
-enum-told : tie.Need-enum-told
-enum-told c = search needs
-
 returns-2 : tie.Need-returns-2
 returns-2 c =
     let t = c .before .before .before in
@@ -67,26 +58,11 @@ returns-2 c =
 returns-3 : tie.Need-returns-3
 returns-3 c = unknown-target _ _ _ _ _ _ _ (known (c .before)) (c .if2 .taken)
 
-inert-requires : tie.Need-inert-requires
-inert-requires c κs = search needs
-
 returns-4 : tie.Need-returns-4
 returns-4 c =
     let b = c .before in
     let e = b .before .before in
     strokes-used _ _ _ _ _ _ _ (known (e .before)) (e .if2 .left) (b .if3 .taken) _ (c .inert .ensures)
-
-spend-requires : tie.Need-spend-requires
-spend-requires c κs = search needs
-
-enum-known-cell : tie.Need-enum-known-cell
-enum-known-cell c = search needs
-
-dead-requires : tie.Need-dead-requires
-dead-requires c κs = search needs
-
-same-length : tie.Need-same-length
-same-length c = search needs
 
 returns-5 : tie.Need-returns-5
 returns-5 c =
@@ -94,36 +70,12 @@ returns-5 c =
     let q = t .before .before .before .before in
     stroke-refused _ _ _ _ _ _ _ (ready q) _ (q .spend .ensures .1) _ (sym (q .spend .ensures .0) ∙ t .cell .given .1) _ (c .dead .ensures)
 
-enum-told-2 : tie.Need-enum-told-2
-enum-told-2 c = search needs
-
-permitted-requires : tie.Need-permitted-requires
-permitted-requires c κs = search needs
-
-enum-known-answer-2 : tie.Need-enum-known-answer-2
-enum-known-answer-2 c = search needs
-
-inert-requires-2 : tie.Need-inert-requires-2
-inert-requires-2 c κs = search needs
-
-enum-told-3 : tie.Need-enum-told-3
-enum-told-3 c = search needs
-
-move-to-requires : tie.Need-move-to-requires
-move-to-requires c κs = search needs
-
-same-length-2 : tie.Need-same-length-2
-same-length-2 c = search needs
-
 returns-6 : tie.Need-returns-6
 returns-6 c =
     let a = c .before .before in
     let w = a .before .before in
     let q = w .before .before .before .before .before in
     not-permitted _ _ _ _ _ _ _ (ready q) _ (q .spend .ensures .1) (done w) _ (sym (w .permitted .ensures) ∙ a .answer2 .given .1) _ (c .inert2 .ensures)
-
-same-length-3 : tie.Need-same-length-3
-same-length-3 c = search needs
 
 returns-7 : tie.Need-returns-7
 returns-7 c =
@@ -138,26 +90,26 @@ pub transition-spec : {M : Type 1} → statement M
 transition-spec =
     tie.close
     (tie.spec
-    admit-requires
-    enum-known-answer
+    (λ c κs. search needs)
+    (λ c. search needs)
     returns
-    enum-told
+    (λ c. search needs)
     returns-2
     returns-3
-    inert-requires
+    (λ c κs. search needs)
     returns-4
-    spend-requires
-    enum-known-cell
-    dead-requires
-    same-length
+    (λ c κs. search needs)
+    (λ c. search needs)
+    (λ c κs. search needs)
+    (λ c. search needs)
     returns-5
-    enum-told-2
-    permitted-requires
-    enum-known-answer-2
-    inert-requires-2
-    enum-told-3
-    move-to-requires
-    same-length-2
+    (λ c. search needs)
+    (λ c κs. search needs)
+    (λ c. search needs)
+    (λ c κs. search needs)
+    (λ c. search needs)
+    (λ c κs. search needs)
+    (λ c. search needs)
     returns-6
-    same-length-3
+    (λ c. search needs)
     returns-7)

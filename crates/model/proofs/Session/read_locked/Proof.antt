@@ -8,9 +8,6 @@ use Rattle.model.specs.Session.{readLocked}
 use Rattle.model.proofs.Session.read_locked.Statement.{statement}
 use Rattle.model.proofs.Session.read_locked.Tie as tie
 
-element-copy-out-result : tie.Need-element-copy-out-result
-element-copy-out-result c = search needs
-
 returns : tie.Need-returns
 unfolding readLocked
 returns c = refl
@@ -22,4 +19,4 @@ returns-2 c =
     sym (List·getD-eq-default (c .before .args .t1 .locks) false {n = c .before .args .number} (omega arith))
 
 pub read-locked-spec : {M : Type 1} → statement M
-read-locked-spec = tie.close (tie.spec element-copy-out-result returns returns-2)
+read-locked-spec = tie.close (tie.spec (λ c. search needs) returns returns-2)

@@ -7,12 +7,6 @@ use Rattle.model.specs.Session.{sensedAt}
 use Rattle.model.proofs.Session.sensed_at.Statement.{statement}
 use Rattle.model.proofs.Session.sensed_at.Tie as tie
 
-mul-result : tie.Need-mul-result
-mul-result c = search needs
-
-element-copy-out-result : tie.Need-element-copy-out-result
-element-copy-out-result c = search needs
-
 returns : tie.Need-returns
 unfolding sensedAt
 returns c = refl
@@ -24,4 +18,4 @@ returns-2 c =
     sym (List·getD-eq-default (c .before .args .t1 .sensed) 0 {n = c .before .args .number} (omega arith))
 
 pub sensed-at-spec : {M : Type 1} → statement M
-sensed-at-spec = tie.close (tie.spec mul-result element-copy-out-result returns returns-2)
+sensed-at-spec = tie.close (tie.spec (λ c. search needs) (λ c. search needs) returns returns-2)
