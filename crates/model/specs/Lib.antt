@@ -6,7 +6,7 @@ pub mod Commands
 pub mod PowerUp
 pub mod Step
 pub mod Terms
+pub mod Refusals
 pub mod Demand3
 pub mod Beyond
-pub mod Refusals
 pub mod Cases

@@ -16,7 +16,7 @@ use Rattle.model.specs.Session.{reasonCode, inPhase}
 use Rattle.model.specs.Answers.{codeOf}
 use Rattle.model.specs.Lent.{Machine, Primitives}
 use Rattle.model.specs.Step.{machineAfter, answerTo}
-use Rattle.model.specs.Beyond.{quiet}
+use Rattle.model.specs.Terms.{quiet}
 
 -- the codes with which what is lent is refused
 abbrev pub judged : ℕ → Bool

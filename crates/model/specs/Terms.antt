@@ -44,6 +44,16 @@ Agree [] l = Unit {0}
 Agree (a ∷ k) [] = Unit {0}
 Agree (a ∷ k) (b ∷ l) = (a ≡ b) × Agree k l
 
+-- neither a power-up nor a transition
+abbrev pub quiet : Command → Type 0
+quiet (Read a) = Unit {0}
+quiet (Write a value) = Unit {0}
+quiet (FrontRead a) = Unit {0}
+quiet (Digest a) = Unit {0}
+quiet (ReadLock number) = Unit {0}
+quiet (Transition target high low) = ⊥
+quiet PowerUp = ⊥
+
 -- Ready lasts "to the next power-up, whatever that answers, or to a transition that answers other than 0x11"
 abbrev pub staysReady : Command → Answer → Type 0
 staysReady (Read a) answer = Unit {0}
@@ -64,13 +74,14 @@ spares map a (ReadLock number) answer = Unit {0}
 spares map a (Transition target high low) answer = Unit {0}
 spares map a PowerUp answer = Unit {0}
 
--- the words that a write of a value stores, and the number of the value's words that it uses: all 64 bits, or the low half
 module _ (prims : Primitives) (map : Map) where
+  -- "its granule holds the data, scrambled where secret": the words that a write of a value at an address stores
   abbrev pub storedWords : List ℕ → ℕ → ℕ → List ℕ
   storedWords constants a value =
       let p = partitionAt map a in
       wordsOf (wordCount p a) (scrambled prims constants p value)
 
+-- "the data used": all 64 bits, or the low half for a granule of 4 bytes
 abbrev pub usedValue : Map → ℕ → ℕ → ℕ
 usedValue map a value = numberOf (wordsOf (wordCount (partitionAt map a) a) value)
 
