@@ -171,6 +171,17 @@ CASES = [
 for i, (about, script, expected, image) in enumerate(CASES):
     run("case_%02d" % (i + 1), "case %d: %s" % (i + 1, about), script, expected, image)
 
+# ---- what the paper leaves to its general rules
+run("target_equals_state", "a target equal to the state is not in the table: the stroke is spent, then 0x21", UP + move(1, RAW_TOKEN) + UP + move(1, RAW_TOKEN) + UP,
+    lines((7, 0, 0), (6, 0, 0), (7, 0, 257), (6, 0x21, 0), (7, 0, 513)))
+run("target_21_without_strokes", "0x11 comes before 0x20", UP + move(21) + read(0), lines((7, 0, 6144), (6, 0x11, 0), (1, 0, 0)), life(24, state(0)))
+run("test_to_rma", "TEST_UNLOCKED0 to RMA needs no token", UP + move(19) + UP, lines((7, 0, 257), (6, 0, 0), (7, 0, 531)), life(1, state(1)))
+run("half_a_digest", "half of a software digest locks the other half at the next power-up", UP + write(0x0F8, 1) + UP + write(0x0FC, 1) + write(0, 1),
+    lines((7, 0, 0), (2, 0, 0), (7, 0, 0), (2, 5, 0), (2, 5, 0)))
+run("read_locked_write", "a read lock stops no write, and there is none past 1", UP + lock(1) + write(0x100, 7) + read(0x100) + lock(2) + lock(255),
+    lines((7, 0, 0), (5, 0, 0), (2, 0, 0), (1, 5, 0), (5, 5, 0), (5, 5, 0)))
+run("too_long_without_files", "a script that is too long comes before the files", UP * 65537, b"00 14 0000000000000000\nend 1\n", None, None)
+
 # ---- targets
 run("target_21", "a target above 20 answers 0x11 and leaves Ready", UP + move(21, RAW_TOKEN) + read(0), lines((7, 0, 0), (6, 0x11, 0), (1, 0, 0)))
 run("addresses_at_edges", "reads, writes and front reads at both sides of every edge of the map",
@@ -191,6 +202,11 @@ run("provisioning", "all partitions written, digests, a power-up; then locked re
 COURSE = (UP + FILL + digest(0x250) + digest(0x2D0) + UP + move(1, RAW_TOKEN ^ 1) + UP + move(1, RAW_TOKEN) + UP + move(2) + UP + move(3, TEST_UNLOCK ^ (1 << 127)) + UP
           + move(3, TEST_UNLOCK) + UP + move(16, TEST_UNLOCK) + UP + move(16, TEST_EXIT) + UP + move(19, TEST_EXIT) + UP + move(19, RMA_TOKEN) + UP + move(16) + UP + move(20) + UP + read(0) + UP)
 run("life_cycle_course", "RAW through TEST, DEV and RMA to SCRAP, with right and wrong tokens", COURSE)
+run("digest_again", "a digest command over its digest, before and after more data, and the power-up that then fails",
+    UP + write(0x200, 1) + digest(0x200) + digest(0x200) + write(0x204, 2) + digest(0x200) + read(0x248) + UP)
+LOCKED = UP + TOKENS + digest(0x250) + digest(0x2D0) + UP + move(1, RAW_TOKEN) + UP
+run("prod_to_rma", "TEST_UNLOCKED0 to PROD with TEST_EXIT, and PROD to RMA with the RMA token", LOCKED + move(17, TEST_EXIT) + UP + move(19, RMA_TOKEN) + UP)
+run("prod_end_to_scrap", "TEST_UNLOCKED0 to PROD_END, which goes to SCRAP and not to RMA", LOCKED + move(18, TEST_EXIT) + UP + move(19, RMA_TOKEN) + UP + move(20) + UP)
 run("all_strokes", "24 strokes spent on wrong tokens, then 0x20", UP + (move(1, 5) + UP) * 26)
 
 # ---- power-ups that fail
