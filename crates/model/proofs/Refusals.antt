@@ -48,8 +48,8 @@ data Clean : Act → Type 0 where
 abbrev Nothing-done : List ℕ → Performed → Type 0
 Nothing-done cells r = (codeOf (r .answer) ≡ 0x00 → ⊥) → (r .cells ≡ cells) × (r .turn ≡ stay)
 
-clean-if : {b : Bool} {x y : Act} → (b ≡ true → Clean x) → (b ≡ false → Clean y) → Clean (if b then x else y)
-clean-if {b} {x} {y} f g = if-both Clean b x y f g
+clean-either : (b : Bool) {x y : Act} → Clean x → Clean y → Clean (if b then x else y)
+clean-either b {x} {y} f g = if-both Clean b x y (λ e. f) (λ e. g)
 
 perform-clean : {x : Act} → Clean x → (copy cells : List ℕ) → Nothing-done cells (perform x copy cells)
 unfolding perform
@@ -61,14 +61,11 @@ perform-clean (programmed {at = at} {words = words}) copy cells =
 module _ (prims : Primitives) (map : Map) (m : Machine) where
   command-clean : (x : Command) → quiet x → Clean (readyAct prims map m x)
   unfolding readyAct commandAct readAct writeAct frontReadAct digestAct readLockAct
-  command-clean (Read a) q =
-      clean-if (λ e. refused) λ e. clean-if (λ e. refused) λ e. clean-if (λ e. refused) λ e. clean-if (λ e. done) λ e. clean-if (λ e. refused) λ e. clean-if (λ e. refused) λ e. done
-  command-clean (Write a value) q =
-      clean-if (λ e. refused) λ e. clean-if (λ e. refused) λ e. clean-if (λ e. refused) λ e. clean-if (λ e. refused) λ e. clean-if (λ e. refused) λ e. programmed
-  command-clean (FrontRead a) q = clean-if (λ e. refused) λ e. clean-if (λ e. refused) λ e. clean-if (λ e. refused) λ e. clean-if (λ e. refused) λ e. done
-  command-clean (Digest a) q =
-      clean-if (λ e. refused) λ e. clean-if (λ e. refused) λ e. clean-if (λ e. refused) λ e. clean-if (λ e. refused) λ e. clean-if (λ e. refused) λ e. programmed
-  command-clean (ReadLock number) q = clean-if (λ e. refused) λ e. clean-if (λ e. refused) λ e. done
+  command-clean (Read a) q = search (clean-either, done, refused) depth 9
+  command-clean (Write a value) q = search (clean-either, refused, programmed) depth 9
+  command-clean (FrontRead a) q = search (clean-either, done, refused) depth 9
+  command-clean (Digest a) q = search (clean-either, refused, programmed) depth 9
+  command-clean (ReadLock number) q = search (clean-either, done, refused) depth 9
   command-clean (Transition target high low) q = absurd q
   command-clean PowerUp q = absurd q
 
