@@ -47,8 +47,10 @@ def is_operand(token):
 
 
 def operators(tokens):
-    for before, t in zip(tokens, tokens[1:]):
-        if t.text in OPERATORS and (t.text not in BOTH_WAYS or is_operand(before)) and before.text not in ("impl", "Reader", "fn"):
+    """An operator or a comparison for another, and a negation taken out. A `<` before a lifetime opens a parameter list."""
+    for before, t, after in zip(tokens, tokens[1:], tokens[2:]):
+        lifetime = re.match(r"'[a-z]", before.text) or re.match(r"'[a-z]", after.text)
+        if t.text in OPERATORS and (t.text not in BOTH_WAYS or is_operand(before)) and not lifetime:
             yield t.start, t.end, OPERATORS[t.text]
         if t.text == "!":
             yield t.start, t.end, ""
@@ -65,8 +67,7 @@ def other_number(text):
 
 
 def numbers(tokens):
-    """A number one more, a byte the next one, a truth value the other one. The widths of arrays in types change with their contracts, so
-    that such a change would be no program; it is tried and counted there."""
+    """A number one more, a byte the next one, a truth value the other one."""
     for t in tokens:
         if t.text in ("true", "false"):
             yield t.start, t.end, "false" if t.text == "true" else "true"
