@@ -11,6 +11,9 @@ use Rattle.basics.specs.Digits.{bit}
 pub bit-or : (a b k : ℕ) → bit (bitOr a b) k ≡ max (bit a k) (bit b k)
 bit-or a b k = rw (or-shr a b k, or-step (a / 2 ^ k) (b / 2 ^ k)) (omega arith)
 
+pub bit-xor : (a b k : ℕ) → bit (bitXor a b) k ≡ bitXor (bit a k) (bit b k)
+bit-xor a b k = ap (λ (x : ℕ). x % 2) (xor-shr a b k) ∙ xor-mod (a / 2 ^ k) (b / 2 ^ k) 1
+
 -- bit i of a half is bit i + 1 of the whole
 pub bit-half : (x i : ℕ) → bit (x / 2) i ≡ bit x (suc i)
 bit-half x i =

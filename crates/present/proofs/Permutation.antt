@@ -1,7 +1,8 @@
 -- The bit permutation. The idea: `place` has an inverse, `source`, so that the sum over where bits go is the number of where they come from.
-use mathlib.Core.Path.{_≡_, ap, _∙_}
+use mathlib.Core.Path.{_≡_, sym, ap, ap₂, _∙_}
 use mathlib.Core.Bool.{true, _&&_}
 use Prim.Native.Nat.{ℕ, _*_, _%_, _^_, _<_}
+use lib.Bits.{bitXor, xor-lt}
 use lib.Dec.{T, eqb, ltb, lit<}
 use borrow.Author.Tests.{eqb-true, ltb-true}
 use Rattle.basics.specs.Choice.{if_then_else_}
@@ -11,6 +12,7 @@ use Rattle.basics.proofs.Choice.{and-left, and-right}
 use Rattle.basics.proofs.Range.{all-at}
 use Rattle.basics.proofs.Sum.{sum-permuted}
 use Rattle.basics.proofs.Digits.{digit-lt, digit-number, number-lt, number-is}
+use Rattle.basics.proofs.Bits.{bit-xor}
 use Rattle.present.specs.Present.{place, permute, permuteBack}
 
 -- the bit that comes to place j
@@ -48,6 +50,11 @@ gathered-bit from x j h = digit-number 2 (lit< tt) 64 (λ k. bit x (from k)) (λ
 gathered-back : (to from : ℕ → ℕ) → Undone to from → (x : ℕ) → x < 2 ^ 64 → gathered to (gathered from x) ≡ x
 gathered-back to from u x l = number-is 2 (lit< tt) 64 x _ l (λ i h. gathered-bit from x (to i) (u i h .0) ∙ ap (bit x) (u i h .1))
 
+gathered-xor : (from : ℕ → ℕ) (x y : ℕ) → gathered from (bitXor x y) ≡ bitXor (gathered from x) (gathered from y)
+gathered-xor from x y =
+    number-is 2 (lit< tt) 64 (bitXor (gathered from x) (gathered from y)) _ (xor-lt 64 _ _ (gathered-lt from x) (gathered-lt from y))
+    (λ j h. bit-xor x y (from j) ∙ sym (bit-xor (gathered from x) (gathered from y) j ∙ ap₂ bitXor (gathered-bit from x j h) (gathered-bit from y j h)))
+
 permute-gathers : (x : ℕ) → permute x ≡ gathered source x
 unfolding permute
 permute-gathers x = sum-permuted 64 place source (λ i j. bit x i * 2 ^ j) place-undone source-undone
@@ -72,3 +79,11 @@ permute-back x l = rw permute-gathers (gathered-back place source place-undone x
 pub permute-forth : (x : ℕ) → x < 2 ^ 64 → permute (permuteBack x) ≡ x
 unfolding permuteBack
 permute-forth x l = rw permute-gathers (gathered-back source place source-undone x l)
+
+-- bits are moved one by one, so both ways go over an exclusive or
+pub permute-xor : (x y : ℕ) → permute (bitXor x y) ≡ bitXor (permute x) (permute y)
+permute-xor x y = rw (permute-gathers (bitXor x y), permute-gathers x, permute-gathers y) (gathered-xor source x y)
+
+pub permuteBack-xor : (x y : ℕ) → permuteBack (bitXor x y) ≡ bitXor (permuteBack x) (permuteBack y)
+unfolding permuteBack
+permuteBack-xor = gathered-xor place

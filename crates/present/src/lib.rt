@@ -1,9 +1,13 @@
 // The block cipher PRESENT: 64-bit block, 128-bit key, 31 rounds and a last key addition. A key comes as its high and its low 64 bits.
 // Bits that do not meet are put together by a sum.
+mod tables;
+
 ghost use mathlib.Core.Path.{_≡_};
 ghost use Prim.Native.Nat.{ℕ, _+_, _*_, _/_, _%_, _^_, _<_};
 ghost use Rattle.basics.specs.Digits.{digit, bit};
-ghost use Rattle.present.specs.Present.{sBox, substitute, place, permute, permuteBack, keyStep, roundKeys, encryptBlock, decryptBlock};
+ghost use Rattle.present.specs.Present.{sBox, substitute, permute, keyStep, roundKeys, encryptBlock};
+ghost use Rattle.present.specs.Present.{sBoxInverse, permuteBack, decryptBlock};
+ghost use Rattle.present.specs.Tables.{tableOf, lookups};
 
 const ROUNDS: usize = 31;
 
@@ -18,14 +22,6 @@ fn group(x: u64, i: u64) -> u64
     ensures { λ r. ⌜ r ≡ digit 16 x i ⌝ }
 {
     (x >> (4 * i)) & 15
-}
-
-// Bit i of x.
-fn bit_at(x: u64, i: u64) -> u64
-    requires { ⌜ i < 64 ⌝ }
-    ensures { λ r. ⌜ r ≡ bit x i ⌝ }
-{
-    (x >> i) & 1
 }
 
 // The S-box at v.
@@ -49,38 +45,25 @@ fn substituted(word: u64, x: u64) -> u64
     out
 }
 
-// Where the permutation puts bit i.
-fn place_of(i: u64) -> u64
-    requires { ⌜ i < 64 ⌝ }
-    ensures { λ r. ⌜ (r ≡ place i) × (r < 64) ⌝ }
-{
-    if i == 63 { 63 } else { 16 * i % 63 }
-}
-
-// Each bit put at its place.
-fn permuted(x: u64) -> u64
-    ensures { λ r. ⌜ r ≡ permute x ⌝ }
+// The entries of x's groups in a table, put together by exclusive or.
+fn looked_up(table: &[u64; 256], x: u64) -> u64
+    ensures { λ r. ⌜ r ≡ lookups (now (table .entry)) 16 x ⌝ }
 {
     let mut out: u64 = 0;
     let mut i: u64 = 0;
-    while i < 64 {
-        out += bit_at(x, i) << place_of(i);
+    while i < 16 {
+        out ^= table[(16 * i + group(x, i)) as usize];
         i += 1;
     }
     out
 }
 
-// Each bit brought back from its place.
-fn permuted_back(x: u64) -> u64
+// Each bit brought back from its place, by the inverse table: the S-box first undoes the inverse S-box in it.
+fn permuted_back(table: &[u64; 256], x: u64) -> u64
+    requires { ⌜ now table ≡ tableOf sBoxInverse permuteBack ⌝ }
     ensures { λ r. ⌜ r ≡ permuteBack x ⌝ }
 {
-    let mut out: u64 = 0;
-    let mut i: u64 = 0;
-    while i < 64 {
-        out += bit_at(x, place_of(i)) << i;
-        i += 1;
-    }
-    out
+    looked_up(table, substituted(S_BOX, x))
 }
 
 // The key register.
@@ -131,43 +114,47 @@ fn round_keys(high: u64, low: u64) -> [u64; 32]
 }
 
 // The rounds and the last key addition, under the round keys of any key.
-fn encrypt_with(keys: &[u64; 32], block: u64) -> u64
+fn encrypt_with(table: &[u64; 256], keys: &[u64; 32], block: u64) -> u64
+    requires { ⌜ now table ≡ tableOf sBox permute ⌝ }
     ensures { λ r. ⌜ ((key : ℕ) → now (keys .entry) ≡ roundKeys key → r ≡ encryptBlock key block) ⌝ }
 {
     let mut state = block;
     let mut i: usize = 0;
     while i < ROUNDS {
-        state = permuted(substituted(S_BOX, state ^ keys[i]));
+        state = looked_up(table, state ^ keys[i]);
         i += 1;
     }
     state ^ keys[ROUNDS]
 }
 
-// The same way back.
-fn decrypt_with(keys: &[u64; 32], block: u64) -> u64
+// The same way back. The state is held as it is after the permutation back, so that a round ends with it, as the table does.
+fn decrypt_with(table: &[u64; 256], keys: &[u64; 32], block: u64) -> u64
+    requires { ⌜ now table ≡ tableOf sBoxInverse permuteBack ⌝ }
     ensures { λ r. ⌜ ((key : ℕ) → now (keys .entry) ≡ roundKeys key → r ≡ decryptBlock key block) ⌝ }
 {
-    let mut state = block ^ keys[ROUNDS];
-    let mut i = ROUNDS;
+    let mut state = permuted_back(table, block ^ keys[ROUNDS]);
+    let mut i = ROUNDS - 1;
     while 0 < i {
+        state = looked_up(table, state) ^ permuted_back(table, keys[i]);
         i -= 1;
-        state = substituted(S_BOX_INVERSE, permuted_back(state)) ^ keys[i];
     }
-    state
+    substituted(S_BOX_INVERSE, state) ^ keys[0]
 }
 
 // A block encrypted under a key.
 pub fn encrypt(key_high: u64, key_low: u64, block: u64) -> u64
     ensures { λ r. ⌜ r ≡ encryptBlock («key_high» * 2 ^ 64 + «key_low») block ⌝ }
 {
+    let table = tables::round_table();
     let keys = round_keys(key_high, key_low);
-    encrypt_with(&keys, block)
+    encrypt_with(&table, &keys, block)
 }
 
 // A block decrypted under a key.
 pub fn decrypt(key_high: u64, key_low: u64, block: u64) -> u64
     ensures { λ r. ⌜ r ≡ decryptBlock («key_high» * 2 ^ 64 + «key_low») block ⌝ }
 {
+    let table = tables::inverse_table();
     let keys = round_keys(key_high, key_low);
-    decrypt_with(&keys, block)
+    decrypt_with(&table, &keys, block)
 }

@@ -6,33 +6,32 @@ use native.Mathlib.Numerals.{add-one}
 use native.Mathlib.Omega.{arith}
 use lib.Bits.{bitXor}
 use lib.Dec.{lit≤, lit<}
-use Rattle.basics.specs.Range.{allBelow}
 use Rattle.present.specs.Present.{sBox, substitute, permute, roundKeys, stateAfter, encryptBlock}
-use Rattle.present.proofs.Boxes.{substitute-held}
 use Rattle.present.proofs.KeyRegister.{key-at}
+use Rattle.present.proofs.Lookups.{round-lookups}
 use Rattle.present.proofs.encrypt_with.Statement.{statement}
 use Rattle.present.proofs.encrypt_with.Tie as tie
 
 abbrev Inv-loop : tie.InvT-loop
-Inv-loop keys block state₀ i₀ state i =
+Inv-loop table keys block state₀ i₀ state i =
     (i ≤ 31) × ((key : ℕ) → keys ≡ roundKeys key → state ≡ stateAfter key block i)
 
 abbrev μ-loop : tie.MeasureT-loop
-μ-loop keys block state₀ i₀ state i = 31 - i
+μ-loop table keys block state₀ i₀ state i = 31 - i
 
 loop-holds : tie.Need-loop-holds Inv-loop μ-loop
 unfolding stateAfter
 loop-holds c = (lit≤ tt, λ key e. refl)
 
 loop-again : tie.Need-loop-again Inv-loop μ-loop
-unfolding allBelow sBox stateAfter
+unfolding stateAfter
 loop-again c =
-    let s = c .before .before .before .before in
+    let s = c .before .before .before in
     let a = s .before .args in
     let i : ℕ = s .loop .i in (
       omega arith,
-      λ key e. c .permuted .ensures
-          ∙ ap permute (c .before .substituted .ensures ∙ substitute-held _ sBox tt _)
+      λ key e. c .looked-up .ensures
+          ∙ round-lookups _ _ (s .before .pre)
           ∙ ap₂ (λ (x k : ℕ). permute (substitute sBox (bitXor x k))) (s .loop .inv .1 key e) (key-at (now (a .keys)) key i e (omega arith))
           ∙ ap (stateAfter key (a .block)) (sym (add-one i)),
     )
@@ -54,7 +53,6 @@ encrypt-with-spec =
     loop-holds
     (λ c. omega arith)
     (λ c. omega arith)
-    (λ c κs. tt)
     (λ c κs. tt)
     (λ c. omega arith)
     (λ c. omega arith)
