@@ -20,6 +20,8 @@ OPERATORS = {
     "<": "<=", "<=": "<", ">": ">=", ">=": ">", "==": "!=", "!=": "==",
 }
 BOTH_WAYS = {"&", "*", "-"}  # a sign before one operand, or an operator between two
+TABLE = 32  # an array with more entries is a table: one rule holds of all entries, so that some of them are tried
+STRIDE = 31  # every so many
 NO_STATEMENT = {"let", "return", "use", "const", "pub", "fn", "struct", "enum", "impl", "mod", "ghost", "if", "while", "for", "loop", "match", "else"}
 
 
@@ -66,9 +68,22 @@ def other_number(text):
     return "%d%s" % (int(digits.replace("_", "")) + 1, suffix)
 
 
+def left_out(tokens):
+    """The places of the entries of tables that are not tried."""
+    found = set()
+    for i, t in enumerate(tokens):
+        entries = arguments(tokens, i, closing(tokens, i)) if t.text == "[" else []
+        if len(entries) > TABLE:
+            found.update(tokens[a].start for k, (a, _) in enumerate(entries) if k % STRIDE)
+    return found
+
+
 def numbers(tokens):
     """A number one more, a byte the next one, a truth value the other one."""
+    skipped = left_out(tokens)
     for t in tokens:
+        if t.start in skipped:
+            continue
         if t.text in ("true", "false"):
             yield t.start, t.end, "false" if t.text == "true" else "true"
         elif re.fullmatch(r"b'[a-z0-9 ]'", t.text):

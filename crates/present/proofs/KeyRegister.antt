@@ -1,8 +1,9 @@
 -- The key register as two halves of 64 bits. The idea: each part of a key step is worked out on the halves by itself.
-use mathlib.Core.Path.{_≡_, sym, ap, ap₂, _∙_}
+use mathlib.Core.Path.{_≡_, refl, sym, ap, ap₂, _∙_}
 use mathlib.Core.List.{List}
 use Prim.Native.Nat.{ℕ, zero, suc, _+_, _*_, _/_, _%_, _^_, _<_}
 use native.Mathlib.Nat.{mod-lt, add-mul, mul-assoc, add-assoc}
+use native.Mathlib.Numerals.{add-one}
 use native.Mathlib.Omega.{arith}
 use lib.Arith.{digits-lt}
 use lib.Bits.{bitXor, xor-lt, xor-block}
@@ -46,7 +47,7 @@ key-at keys key i e h = ap (λ (ks : List ℕ). getD ks i 0) e ∙ listed-at (λ
 
 -- ---- on the halves
 
-pub roundKey-halves : (a b : ℕ) → b < 2 ^ 64 → roundKey (a * 2 ^ 64 + b) ≡ a
+roundKey-halves : (a b : ℕ) → b < 2 ^ 64 → roundKey (a * 2 ^ 64 + b) ≡ a
 unfolding roundKey
 roundKey-halves a b l = high a 64 l
 
@@ -106,3 +107,23 @@ keyStep-halves round a b la lb =
     ap (λ (x : ℕ). bitXor (substituteTop x) (round * 2 ^ 62)) (rotate-halves a b lb)
     ∙ ap (λ (x : ℕ). bitXor x (round * 2 ^ 62)) (top-halves (turned a b) (turned b a) l)
     ∙ xor-halves round (topped (turned a b)) (turned b a) l
+
+-- ---- a loop that steps the register
+
+-- the halves are those of the key after i steps
+pub record Register (key high low i : ℕ) : Type 0 where
+  pub whole : high * 2 ^ 64 + low ≡ keyAfter key i
+  pub fits : low < 2 ^ 64
+
+pub register-first : {high low : ℕ} → low < 2 ^ 64 → Register (high * 2 ^ 64 + low) high low 0
+unfolding keyAfter
+register-first l = record { whole = refl; fits = l }
+
+module _ {key a b i : ℕ} (r : Register key a b i) where
+  pub register-next : {c d : ℕ} → c * 2 ^ 64 + d ≡ keyStep (i + 1) (a * 2 ^ 64 + b) → d < 2 ^ 64 → Register key c d (i + 1)
+  unfolding keyAfter
+  register-next e l = record { whole = e ∙ ap (keyStep (i + 1)) (r .whole) ∙ rw (add-one i); fits = l }
+
+  -- "The round key is the key's top 64 bits."
+  pub register-high : a ≡ roundKey (keyAfter key i)
+  register-high = sym (roundKey-halves a b (r .fits)) ∙ ap roundKey (r .whole)

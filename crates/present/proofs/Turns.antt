@@ -1,4 +1,4 @@
--- Loops that put a number together from its bits or groups. The idea: each turn adds one term of a sum, and a part of a sum is at most the whole.
+-- Loops that put a number together from its groups. The idea: each turn adds one term of a sum, and a part of a sum is at most the whole.
 use mathlib.Core.Path.{_≡_, refl, sym, ap, _∙_}
 use Prim.Native.Nat.{ℕ, zero, suc, _+_, _*_, _/_, _%_, _^_, _≤_, _<_}
 use native.Mathlib.Nat.{pow-suc, mul-suc}

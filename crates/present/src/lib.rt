@@ -1,10 +1,10 @@
 // The block cipher PRESENT: 64-bit block, 128-bit key, 31 rounds and a last key addition. A key comes as its high and its low 64 bits.
-// Bits that do not meet are put together by a sum.
+// Groups of four bits and parts of the key register are put together by a sum: their bits do not meet.
 mod tables;
 
 ghost use mathlib.Core.Path.{_≡_};
 ghost use Prim.Native.Nat.{ℕ, _+_, _*_, _/_, _%_, _^_, _<_};
-ghost use Rattle.basics.specs.Digits.{digit, bit};
+ghost use Rattle.basics.specs.Digits.{digit};
 ghost use Rattle.present.specs.Present.{sBox, substitute, permute, keyStep, roundKeys, encryptBlock};
 ghost use Rattle.present.specs.Present.{sBoxInverse, permuteBack, decryptBlock};
 ghost use Rattle.present.specs.Tables.{tableOf, lookups};
@@ -58,7 +58,7 @@ fn looked_up(table: &[u64; 256], x: u64) -> u64
     out
 }
 
-// Each bit brought back from its place, by the inverse table: the S-box first undoes the inverse S-box in it.
+// Each bit brought back from its place. The S-box undoes the inverse S-box in the entries, and the permutation back is left.
 fn permuted_back(table: &[u64; 256], x: u64) -> u64
     requires { ⌜ now table ≡ tableOf sBoxInverse permuteBack ⌝ }
     ensures { λ r. ⌜ r ≡ permuteBack x ⌝ }
@@ -113,21 +113,27 @@ fn round_keys(high: u64, low: u64) -> [u64; 32]
     keys
 }
 
-// The rounds and the last key addition, under the round keys of any key.
-fn encrypt_with(table: &[u64; 256], keys: &[u64; 32], block: u64) -> u64
+// The rounds and the last key addition. The key register goes along with the state.
+fn encrypt_with(table: &[u64; 256], key_high: u64, key_low: u64, block: u64) -> u64
     requires { ⌜ now table ≡ tableOf sBox permute ⌝ }
-    ensures { λ r. ⌜ ((key : ℕ) → now (keys .entry) ≡ roundKeys key → r ≡ encryptBlock key block) ⌝ }
+    ensures { λ r. ⌜ r ≡ encryptBlock («key_high» * 2 ^ 64 + «key_low») block ⌝ }
 {
     let mut state = block;
+    let mut key = Key {
+        high: key_high,
+        low: key_low,
+    };
     let mut i: usize = 0;
     while i < ROUNDS {
-        state = looked_up(table, state ^ keys[i]);
+        state = looked_up(table, state ^ key.high);
         i += 1;
+        key = key_step(i as u64, key.high, key.low);
     }
-    state ^ keys[ROUNDS]
+    state ^ key.high
 }
 
-// The same way back. The state is held as it is after the permutation back, so that a round ends with it, as the table does.
+// The rounds back. The permutation goes over a key addition, so that a round may end with it, as an entry of the table does: the state is held
+// permuted back, and each key is added to it permuted back.
 fn decrypt_with(table: &[u64; 256], keys: &[u64; 32], block: u64) -> u64
     requires { ⌜ now table ≡ tableOf sBoxInverse permuteBack ⌝ }
     ensures { λ r. ⌜ ((key : ℕ) → now (keys .entry) ≡ roundKeys key → r ≡ decryptBlock key block) ⌝ }
@@ -146,8 +152,7 @@ pub fn encrypt(key_high: u64, key_low: u64, block: u64) -> u64
     ensures { λ r. ⌜ r ≡ encryptBlock («key_high» * 2 ^ 64 + «key_low») block ⌝ }
 {
     let table = tables::round_table();
-    let keys = round_keys(key_high, key_low);
-    encrypt_with(&table, &keys, block)
+    encrypt_with(&table, key_high, key_low, block)
 }
 
 // A block decrypted under a key.

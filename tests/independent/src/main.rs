@@ -33,13 +33,13 @@ use std::process::ExitCode;
 
 const USAGE: &str = "usage:
   independent compare PROGRAM [COUNT] [SEED]
-  independent speed PROGRAM [COUNT]
+  independent speed [PROGRAM..]
+  independent speed-power-up PROGRAM..
   independent compare-runs PROGRAM [COUNT] [SEED]
   independent bench";
 
 const CASES: u64 = 24_000;
 const RUNS: u64 = 2_400;
-const SPEED_COUNT: u64 = 200_000;
 const SEED: u64 = 20_260;
 
 fn main() -> ExitCode {
@@ -65,10 +65,8 @@ fn perform(arguments: &[String]) -> Result<bool, String> {
             let cases = inputs::make(count as usize, &mut Random::new(seed));
             compare::compare(Path::new(&arguments[1]), &cases)
         }
-        (Some("speed"), 2..=3) => {
-            let count = number(arguments.get(2), SPEED_COUNT)?;
-            speed::speed(Path::new(&arguments[1]), count)
-        }
+        (Some("speed"), 1..) => speed::encryptions(&arguments[1..]),
+        (Some("speed-power-up"), 2..) => speed::power_ups(&arguments[1..]),
         (Some("compare-runs"), 2..=4) => {
             let count = number(arguments.get(2), RUNS)?;
             let seed = number(arguments.get(3), SEED)?;

@@ -86,7 +86,8 @@ fn try_run(
     Ok(faults)
 }
 
-fn lay_files(folder: &Path, run: &Run) -> std::io::Result<()> {
+/// Puts a run's image and constants into a folder of their own.
+pub fn lay_files(folder: &Path, run: &Run) -> std::io::Result<()> {
     fs::create_dir_all(folder)?;
     for (name, bytes) in [(IMAGE, &run.image), (CONSTANTS, &run.constants)] {
         if let Some(bytes) = bytes {

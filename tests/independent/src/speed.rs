@@ -1,8 +1,11 @@
-//! Encryptions a second, key schedule included, of a proved program and of
-//! the twin, in the same run.
+//! Speeds of proved programs, all in one run: encryptions a second, key
+//! schedule included, beside the twins', and the time of a power-up.
 
 use crate::cases::{Case, ANSWER_BYTES, CHAIN};
-use crate::{child, twin};
+use crate::random::Random;
+use crate::scenarios::Run;
+use crate::{child, chips, runs, twin};
+use std::fs;
 use std::hint::black_box;
 use std::path::Path;
 use std::time::{Duration, Instant};
@@ -10,64 +13,177 @@ use std::time::{Duration, Instant};
 /// Each time is the best of so many.
 const TRIES: usize = 5;
 
-const KEY_HIGH: u64 = 0x0123_4567_89ab_cdef;
-const KEY_LOW: u64 = 0xfedc_ba98_7654_3210;
+const ENCRYPTIONS: u64 = 500_000;
+const POWER_UPS: u64 = 10_000;
+
+const KEY: (u64, u64) = (0x0123_4567_89ab_cdef, 0xfedc_ba98_7654_3210);
 const BLOCK: u64 = 0x0f1e_2d3c_4b5a_6978;
 
-/// Measures and prints both speeds. False when the results differ.
-pub fn speed(program: &Path, count: u64) -> Result<bool, String> {
-    let mut whole = Duration::MAX;
-    let mut start_up = Duration::MAX;
-    let mut twin_time = Duration::MAX;
-    for _ in 0..TRIES {
-        let (time, result) = time_of_program(program, count)?;
-        let (idle, _) = time_of_program(program, 0)?;
-        let (own, expected) = time_of_twin(count);
-        if result != expected {
-            println!("results differ: program {result:016x}, twin {expected:016x}");
-            return Ok(false);
-        }
-        whole = whole.min(time);
-        start_up = start_up.min(idle);
-        twin_time = twin_time.min(own);
+/// What is measured: a name, and a way to do the work a number of times that
+/// gives its result.
+struct Runner<'a> {
+    name: &'a str,
+    work: Box<dyn Fn(u64) -> Result<Vec<u8>, String> + 'a>,
+}
+
+/// Prints the encryptions a second of programs and twins. False when results
+/// differ.
+pub fn encryptions(programs: &[String]) -> Result<bool, String> {
+    let table = twin::table();
+    let by_table = |state| twin::looked_up(&table, state);
+    let mut runners = vec![
+        Runner::new("twin by table", |n| Ok(twin_chain(by_table, n))),
+        Runner::new("twin, plain rounds", |n| Ok(twin_chain(twin::plain, n))),
+    ];
+    for program in programs {
+        runners.push(Runner::new(program, |n| program_chain(program, n)));
     }
-    let net = whole.saturating_sub(start_up);
-    if net.is_zero() || twin_time.is_zero() {
-        return Err(format!("{count} encryptions are too few to measure"));
+    let Some(times) = best_times(&runners, ENCRYPTIONS)? else {
+        return Ok(false);
+    };
+    for (runner, time) in runners.iter().zip(&times) {
+        let rate = ENCRYPTIONS as f64 / time.as_secs_f64();
+        let ratio = time.as_secs_f64() / times[0].as_secs_f64();
+        println!(
+            "{rate:>9.0} encryptions a second, {ratio:.2} times as long as by table: {}",
+            runner.name
+        );
     }
-    let program_rate = count as f64 / net.as_secs_f64();
-    let twin_rate = count as f64 / twin_time.as_secs_f64();
-    println!("program {program_rate:.0} encryptions a second");
-    println!("twin    {twin_rate:.0} encryptions a second");
-    println!("ratio   {:.3} (program to twin)", program_rate / twin_rate);
     Ok(true)
 }
 
-fn time_of_program(program: &Path, count: u64) -> Result<(Duration, u64), String> {
+/// Prints the time of a power-up on bench programs, of a blank chip and of one
+/// that is fully locked. False when what they print differs.
+pub fn power_ups(programs: &[String]) -> Result<bool, String> {
+    let mut random = Random::new(1);
+    let constants = chips::constants(&mut random);
+    let locked = chips::locked(&constants, &mut random);
+    let blank = vec![0; locked.len()];
+    Ok(time_power_ups("blank", &blank, &constants, programs)?
+        && time_power_ups("fully locked", &locked, &constants, programs)?)
+}
+
+fn time_power_ups(
+    chip: &str,
+    cells: &[u16],
+    constants: &[u16],
+    programs: &[String],
+) -> Result<bool, String> {
+    let folder = std::env::temp_dir().join(format!("independent-{}", std::process::id()));
+    let failure = |error: std::io::Error| error.to_string();
+    runs::lay_files(&folder, &Run::of(&[], cells, constants)).map_err(failure)?;
+    let mut runners = Vec::new();
+    for program in programs {
+        let path = fs::canonicalize(program).map_err(|error| format!("{program}: {error}"))?;
+        let folder = &folder;
+        runners.push(Runner::new(program, move |n| powered_up(&path, folder, n)));
+    }
+    let times = best_times(&runners, POWER_UPS)?;
+    fs::remove_dir_all(&folder).map_err(failure)?;
+    for (runner, time) in runners.iter().zip(times.iter().flatten()) {
+        let each = time.as_secs_f64() * 1e6 / POWER_UPS as f64;
+        println!(
+            "{each:>7.2} microseconds a power-up, {chip}: {}",
+            runner.name
+        );
+    }
+    Ok(times.is_some())
+}
+
+impl<'a> Runner<'a> {
+    fn new(name: &'a str, work: impl Fn(u64) -> Result<Vec<u8>, String> + 'a) -> Runner<'a> {
+        Runner {
+            name,
+            work: Box::new(work),
+        }
+    }
+
+    fn time(&self, count: u64) -> Result<(Duration, Vec<u8>), String> {
+        let begin = Instant::now();
+        let result = (self.work)(count)?;
+        Ok((begin.elapsed(), result))
+    }
+}
+
+/// The best time of each runner for `count` times its work, start-up taken
+/// off. They take turns, so that a busy machine slows all of them. None when
+/// results differ.
+fn best_times(runners: &[Runner], count: u64) -> Result<Option<Vec<Duration>>, String> {
+    let mut whole = vec![Duration::MAX; runners.len()];
+    let mut start_up = whole.clone();
+    for _ in 0..TRIES {
+        let mut results = Vec::new();
+        for (i, runner) in runners.iter().enumerate() {
+            let (time, result) = runner.time(count)?;
+            let (idle, _) = runner.time(0)?;
+            whole[i] = whole[i].min(time);
+            start_up[i] = start_up[i].min(idle);
+            results.push(result);
+        }
+        if let Some(i) = results.iter().position(|result| *result != results[0]) {
+            println!(
+                "results of {} and {} differ",
+                runners[0].name, runners[i].name
+            );
+            return Ok(None);
+        }
+    }
+    let net = |(whole, idle): (&Duration, &Duration)| whole.saturating_sub(*idle);
+    Ok(Some(whole.iter().zip(&start_up).map(net).collect()))
+}
+
+fn twin_chain(layers: impl Fn(u64) -> u64, count: u64) -> Vec<u8> {
+    let result = twin::chain(layers, black_box(KEY), black_box(BLOCK), black_box(count));
+    black_box(result).to_le_bytes().to_vec()
+}
+
+fn program_chain(program: &str, count: u64) -> Result<Vec<u8>, String> {
     let mut case = Case::blank(CHAIN);
-    (case.a, case.b, case.c, case.n) = (KEY_HIGH, KEY_LOW, BLOCK, count);
-    let begin = Instant::now();
-    let outcome = child::run(program, Path::new("."), case.bytes(), ANSWER_BYTES)?;
-    let time = begin.elapsed();
+    (case.a, case.b, case.c, case.n) = (KEY.0, KEY.1, BLOCK, count);
+    let outcome = child::run(
+        Path::new(program),
+        Path::new("."),
+        case.bytes(),
+        ANSWER_BYTES,
+    )?;
     if outcome.output.len() != ANSWER_BYTES || !outcome.ended_well {
+        return Err(format!("{program}: no right answer to one case"));
+    }
+    Ok(outcome.output[..8].to_vec())
+}
+
+/// What a bench program prints of a script of power-ups.
+fn powered_up(program: &Path, folder: &Path, count: u64) -> Result<Vec<u8>, String> {
+    let expected = "07 00 0000000000000000\n".repeat(count as usize) + &format!("end {count}\n");
+    let outcome = child::run(program, folder, vec![7; count as usize], expected.len())?;
+    if outcome.output != expected.as_bytes() || !outcome.ended_well {
         return Err(format!(
-            "{}: no right answer to one case",
+            "{}: not {count} power-ups that are done",
             program.display()
         ));
     }
-    let mut result = [0; 8];
-    result.copy_from_slice(&outcome.output[..8]);
-    Ok((time, u64::from_le_bytes(result)))
+    Ok(outcome.output)
 }
 
-fn time_of_twin(count: u64) -> (Duration, u64) {
-    let begin = Instant::now();
-    let result = twin::chain(
-        black_box(KEY_HIGH),
-        black_box(KEY_LOW),
-        black_box(BLOCK),
-        black_box(count),
-    );
-    let result = black_box(result);
-    (begin.elapsed(), result)
+#[cfg(test)]
+mod tests {
+    use super::*;
+    use crate::model::{Chip, Command};
+
+    #[test]
+    fn the_locked_chip_is_fully_locked() {
+        let mut random = Random::new(1);
+        let constants = chips::constants(&mut random);
+        let mut chip = Chip::new(chips::locked(&constants, &mut random), constants);
+        assert_eq!(chip.execute(Command::PowerUp).code, 0);
+        assert!(chip.session.digests.iter().all(|digest| *digest != 0));
+    }
+
+    #[test]
+    fn results_that_differ_are_told() {
+        let one = || Runner::new("one", |n| Ok(vec![n as u8]));
+        let two = Runner::new("two", |n| Ok(vec![n as u8 + 1]));
+        assert!(best_times(&[one(), one()], 7).unwrap().is_some());
+        assert!(best_times(&[one(), two], 7).unwrap().is_none());
+    }
 }

@@ -7,7 +7,6 @@ use native.Mathlib.Omega.{arith}
 use lib.Bits.{bitXor}
 use lib.Dec.{lit≤, lit<}
 use lib.ListN.{getD}
-use Rattle.basics.specs.Digits.{digit}
 use Rattle.basics.proofs.Digits.{digit-lt}
 use Rattle.present.specs.Tables.{lookups}
 use Rattle.present.proofs.looked_up.Statement.{statement}
