@@ -1,5 +1,5 @@
--- Decryption with the permutation back at the end of a round. The idea: the permutation goes over the key addition, so the state can be held as it is
--- after the permutation back.
+-- Decryption with the permutation back at the end of a round. The idea: the permutation back distributes over the key addition, so that the state can
+-- be held permuted back.
 use mathlib.Core.Path.{_≡_, sym, ap, ap₂, _∙_}
 use Prim.Native.Nat.{ℕ, suc}
 use lib.Bits.{bitXor}

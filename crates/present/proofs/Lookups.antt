@@ -1,4 +1,4 @@
--- Lookups in a table in place of a box and a move of bits. The idea: a block is the exclusive or of its groups, and the move goes over that.
+-- Lookups in a table in place of a box and a move of bits. The idea: a block is the exclusive or of its groups, and the move distributes over it.
 use mathlib.Core.Path.{_≡_, sym, ap, ap₂, subst, _∙_}
 use mathlib.Core.List.{List}
 use Prim.Native.Nat.{ℕ, zero, suc, _+_, _*_, _/_, _%_, _^_, _≤_, _<_}
@@ -26,7 +26,7 @@ next-group d small n =
     ∙ xor-shifted (d n) (4 * n) (number 16 n d) below
     ∙ ap (λ (p : ℕ). d n * p + number 16 n d) (sym (sixteen-power n))
 
-module _ (box move : ℕ → ℕ) (small : (v : ℕ) → v < 16 → box v < 16) (over-xor : (x y : ℕ) → move (bitXor x y) ≡ bitXor (move x) (move y)) where
+module _ (box move : ℕ → ℕ) (small : (v : ℕ) → v < 16 → box v < 16) (distributes : (x y : ℕ) → move (bitXor x y) ≡ bitXor (move x) (move y)) where
   entry-at : (i v : ℕ) → i < 16 → v < 16 → getD (tableOf box move) (16 * i + v) 0 ≡ move (box v * 16 ^ i)
   unfolding tableOf
   entry-at i v hi hv =
@@ -37,11 +37,11 @@ module _ (box move : ℕ → ℕ) (small : (v : ℕ) → v < 16 → box v < 16) 
 
   groups-below : (n x : ℕ) → n ≤ 16 → lookups (tableOf box move) n x ≡ move (number 16 n (λ i. box (digit 16 x i)))
   unfolding lookups sum
-  groups-below zero x h = sym (over-xor 0 0 ∙ xor-self (move 0))
+  groups-below zero x h = sym (distributes 0 0 ∙ xor-self (move 0))
   groups-below (suc n) x h =
       let d : ℕ → ℕ = λ i. box (digit 16 x i) in
       ap₂ bitXor (groups-below n x (omega arith)) (entry-at n (digit 16 x n) h (digit-lt 16 (lit< tt) x n))
-      ∙ sym (over-xor (number 16 n d) (d n * 16 ^ n))
+      ∙ sym (distributes (number 16 n d) (d n * 16 ^ n))
       ∙ ap move (next-group d (λ i. small (digit 16 x i) (digit-lt 16 (lit< tt) x i)) n)
 
 -- ---- the two tables

@@ -80,7 +80,7 @@ pub permute-forth : (x : ℕ) → x < 2 ^ 64 → permute (permuteBack x) ≡ x
 unfolding permuteBack
 permute-forth x l = rw permute-gathers (gathered-back source place source-undone x l)
 
--- bits are moved one by one, so both ways go over an exclusive or
+-- bits are moved one by one, so that both ways distribute over exclusive or
 pub permute-xor : (x y : ℕ) → permute (bitXor x y) ≡ bitXor (permute x) (permute y)
 permute-xor x y = rw (permute-gathers (bitXor x y), permute-gathers x, permute-gathers y) (gathered-xor source x y)
 

@@ -7,11 +7,11 @@ use lib.ListN.{getD}
 use Rattle.basics.specs.Range.{listed}
 use Rattle.basics.specs.Digits.{digit}
 
--- entry 16 * i + v is what group i of four bits with the value v, alone in a block, gives after a box and a move of bits
+-- entry 16 * i + v is for group i of four bits with the value v: what a box gives for v, alone in a block at group i, with its bits moved
 unfoldable pub tableOf : (ℕ → ℕ) → (ℕ → ℕ) → List ℕ
 tableOf box move = listed (λ k. move (box (k % 16) * 16 ^ (k / 16))) 0 256
 
--- the entries of the lowest n groups of x, together
+-- the exclusive or of the entries for the lowest n groups of x
 unfoldable pub lookups : List ℕ → ℕ → ℕ → ℕ
 lookups table zero x = 0
 lookups table (suc n) x = bitXor (lookups table n x) (getD table (16 * n + digit 16 x n) 0)

@@ -45,7 +45,7 @@ fn substituted(word: u64, x: u64) -> u64
     out
 }
 
-// The entries of x's groups in a table, put together by exclusive or.
+// The exclusive or of the entries that a table has for x's groups.
 fn looked_up(table: &[u64; 256], x: u64) -> u64
     ensures { λ r. ⌜ r ≡ lookups (now (table .entry)) 16 x ⌝ }
 {
@@ -58,7 +58,7 @@ fn looked_up(table: &[u64; 256], x: u64) -> u64
     out
 }
 
-// Each bit brought back from its place. The S-box undoes the inverse S-box in the entries, and the permutation back is left.
+// Each bit brought back from its place: the S-box undoes the inverse S-box of the entries, and their permutation back is left.
 fn permuted_back(table: &[u64; 256], x: u64) -> u64
     requires { ⌜ now table ≡ tableOf sBoxInverse permuteBack ⌝ }
     ensures { λ r. ⌜ r ≡ permuteBack x ⌝ }
@@ -132,8 +132,8 @@ fn encrypt_with(table: &[u64; 256], key_high: u64, key_low: u64, block: u64) -> 
     state ^ key.high
 }
 
-// The rounds back. The permutation goes over a key addition, so that a round may end with it, as an entry of the table does: the state is held
-// permuted back, and each key is added to it permuted back.
+// The rounds back. The permutation back distributes over the key addition, so that a round may end with it, as the entries of the table do: the
+// state is held permuted back, and each round key is permuted back before it is added.
 fn decrypt_with(table: &[u64; 256], keys: &[u64; 32], block: u64) -> u64
     requires { ⌜ now table ≡ tableOf sBoxInverse permuteBack ⌝ }
     ensures { λ r. ⌜ ((key : ℕ) → now (keys .entry) ≡ roundKeys key → r ≡ decryptBlock key block) ⌝ }

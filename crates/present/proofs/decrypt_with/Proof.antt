@@ -1,4 +1,4 @@
--- The loop's invariant: under any key with these round keys, the state is held as after the permutation back, i + 1 rounds from the end.
+-- The loop's invariant: under any key with these round keys, the state is held permuted back, i + 1 rounds from the end.
 use denote.Ref.{now}
 use mathlib.Core.Path.{_≡_, ap, subst, _∙_}
 use Prim.Native.Nat.{ℕ, suc, _-_, _≤_}

@@ -1,4 +1,4 @@
--- The loop's invariant: the entries of the groups below i are put together.
+-- The loop's invariant: the exclusive or has the entries of the groups below i.
 use denote.Ref.{now}
 use mathlib.Core.Path.{_≡_, refl, sym, ap, ap₂, _∙_}
 use Prim.Native.Nat.{ℕ, _+_, _-_, _*_, _≤_, _<_}
