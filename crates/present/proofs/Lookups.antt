@@ -32,7 +32,7 @@ module _ (box move : ℕ → ℕ) (small : (v : ℕ) → v < 16 → box v < 16) 
   entry-at i v hi hv =
       let value : (16 * i + v) % 16 ≡ v = omega arith in
       let place : (16 * i + v) / 16 ≡ i = omega arith in
-      listed-at (λ k. move (box (k % 16) * 16 ^ (k / 16))) 0 256 (16 * i + v) (omega arith)
+      listed-at _ 0 256 (16 * i + v) (omega arith)
       ∙ ap₂ (λ (u j : ℕ). move (box u * 16 ^ j)) value place
 
   groups-below : (n x : ℕ) → n ≤ 16 → lookups (tableOf box move) n x ≡ move (number 16 n (λ i. box (digit 16 x i)))
