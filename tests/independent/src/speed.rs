@@ -55,12 +55,17 @@ pub fn encryptions(programs: &[String]) -> Result<bool, String> {
 /// Prints the time of a power-up on bench programs, of a blank chip and of one
 /// that is fully locked. False when what they print differs.
 pub fn power_ups(programs: &[String]) -> Result<bool, String> {
-    let mut random = Random::new(1);
-    let constants = chips::constants(&mut random);
-    let locked = chips::locked(&constants, &mut random);
+    let (locked, constants) = locked_chip();
     let blank = vec![0; locked.len()];
     Ok(time_power_ups("blank", &blank, &constants, programs)?
         && time_power_ups("fully locked", &locked, &constants, programs)?)
+}
+
+/// The cells and the constants of a chip that is fully locked.
+fn locked_chip() -> (Vec<u16>, Vec<u16>) {
+    let mut random = Random::new(1);
+    let constants = chips::constants(&mut random);
+    (chips::locked(&constants, &mut random), constants)
 }
 
 fn time_power_ups(
@@ -71,15 +76,16 @@ fn time_power_ups(
 ) -> Result<bool, String> {
     let folder = std::env::temp_dir().join(format!("independent-{}", std::process::id()));
     let failure = |error: std::io::Error| error.to_string();
-    runs::lay_files(&folder, &Run::of(&[], cells, constants)).map_err(failure)?;
     let mut runners = Vec::new();
     for program in programs {
         let path = fs::canonicalize(program).map_err(|error| format!("{program}: {error}"))?;
         let folder = &folder;
         runners.push(Runner::new(program, move |n| powered_up(&path, folder, n)));
     }
-    let times = best_times(&runners, POWER_UPS)?;
+    runs::lay_files(&folder, &Run::of(&[], cells, constants)).map_err(failure)?;
+    let times = best_times(&runners, POWER_UPS);
     fs::remove_dir_all(&folder).map_err(failure)?;
+    let times = times?;
     for (runner, time) in runners.iter().zip(times.iter().flatten()) {
         let each = time.as_secs_f64() * 1e6 / POWER_UPS as f64;
         println!(
@@ -172,9 +178,8 @@ mod tests {
 
     #[test]
     fn the_locked_chip_is_fully_locked() {
-        let mut random = Random::new(1);
-        let constants = chips::constants(&mut random);
-        let mut chip = Chip::new(chips::locked(&constants, &mut random), constants);
+        let (cells, constants) = locked_chip();
+        let mut chip = Chip::new(cells, constants);
         assert_eq!(chip.execute(Command::PowerUp).code, 0);
         assert!(chip.session.digests.iter().all(|digest| *digest != 0));
     }
