@@ -1,11 +1,12 @@
 -- Laws of granules. The idea: a granule has 4 or 8 bytes, and starts, digests and ends stand at multiples of 8, so it lies on one side of each of them.
 use mathlib.Core.Path.{_≡_, refl, sym, ap, _∙_}
-use mathlib.Core.Bool.{true}
+use mathlib.Core.Bool.{true, false, _||_}
 use Prim.Native.Nat.{ℕ, _+_, _*_, _/_, _≤_, _<_}
 use native.Mathlib.Omega.{arith}
 use lib.Dec.{leb}
 use lib.ListN.{length}
 use borrow.Author.Tests.{leb-true, leb-false, le-leb, lt-leb}
+use Rattle.basics.specs.Choice.{if_then_else_}
 use Rattle.basics.proofs.Choice.{by-cases, if-true, if-false}
 use Rattle.partitions.specs.declared.Partition.{Partition}
 use Rattle.partitions.specs.Map.{Map, rightsOf, numberAt, partition, partitionAt, limit, inDigest, granuleAt, firstWord, wordCount}
@@ -14,22 +15,24 @@ use Rattle.partitions.proofs.Map.{FitPartition, inside, only, partition
 
 -- ---- the size of a granule: all that the other laws know of it
 
-pub granule-data : (p : Partition) (a : ℕ) → granuleAt p a ≡ p .granule
-unfolding granuleAt
-granule-data p a = refl
+-- eight bytes in a digest and in scrambled data, four in other data
+granule-size : {p : Partition} → FitPartition p → (a : ℕ) → granuleAt p a ≡ (if inDigest p a || rightsOf (p .kind) .scrambled then 8 else 4)
+unfolding granuleAt if_then_else_
+granule-size {p} f a = by-cases (inDigest p a) (λ d. rw d) (λ d. rw d (f .sized))
 
 -- four bytes or eight, and each case may use which
 pub by-granule {ℓ} : {X : Type ℓ} {p : Partition} → FitPartition p → (a : ℕ) → (granuleAt p a ≡ 4 → X) → (granuleAt p a ≡ 8 → X) → X
 by-granule {p} f a four eight =
-    by-cases (rightsOf (p .kind) .scrambled) (λ e. eight (granule-data p a ∙ f .sized ∙ if-true 8 4 e))
-    (λ e. four (granule-data p a ∙ f .sized ∙ if-false 8 4 e))
+    by-cases (inDigest p a || rightsOf (p .kind) .scrambled) (λ e. eight (granule-size f a ∙ if-true 8 4 e)) (λ e. four (granule-size f a ∙ if-false 8 4 e))
 
 pub granule-scrambled : {p : Partition} → FitPartition p → rightsOf (p .kind) .scrambled ≡ true → (a : ℕ) → granuleAt p a ≡ 8
-granule-scrambled {p} f e a = granule-data p a ∙ f .sized ∙ if-true 8 4 e
+unfolding if_then_else_
+granule-scrambled {p} f e a = granule-size f a ∙ rw e (by-cases (inDigest p a) (λ d. rw d) (λ d. rw d))
 
 -- it may differ between data and digest, and nowhere else
 pub granule-side : (p : Partition) (a b : ℕ) → inDigest p a ≡ inDigest p b → granuleAt p a ≡ granuleAt p b
-granule-side p a b e = granule-data p a ∙ sym (granule-data p b)
+unfolding granuleAt
+granule-side p a b e = rw e
 
 -- ---- the granule of an address in one partition
 

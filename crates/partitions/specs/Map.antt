@@ -56,9 +56,9 @@ limit (p ∷ q ∷ ps) = limit (q ∷ ps)
 unfoldable pub inDigest : Partition → ℕ → Bool
 inDigest p a = leb (p .digest) a
 
--- the granule of an address, in bytes
+-- the granule of an address, in bytes: "every digest location .. now has 8 bytes, for read and write" (document 02); of its data, that of the partition
 unfoldable pub granuleAt : Partition → ℕ → ℕ
-granuleAt p a = p .granule
+granuleAt p a = if inDigest p a then 8 else p .granule
 
 -- "low address bits inside a granule are ignored": its first word, and how many words it has
 unfoldable pub firstWord : Partition → ℕ → ℕ

@@ -1,6 +1,6 @@
 // The partitions of the fuse array: kinds and their rights, and Map 1, whose partitions are types with constants of their own.
 ghost use mathlib.Core.Path.{_≡_};
-ghost use Rattle.partitions.specs.Map.{rightsOf, numberAt, partition, firstWord, wordCount};
+ghost use Rattle.partitions.specs.Map.{rightsOf, numberAt, partition, granuleAt, firstWord, wordCount};
 ghost use Rattle.partitions.specs.Map1.{map1};
 
 pub enum Kind {
@@ -21,7 +21,7 @@ pub struct Rights {
     pub front: bool,
 }
 
-// A partition in byte addresses: where it starts, where its digest is, the first address past it, and its granule.
+// A partition in byte addresses: where it starts, where its digest is, the first address past it, and the granule of its data.
 pub struct Partition {
     pub kind: Kind,
     pub start: usize,
@@ -96,11 +96,25 @@ impl Partition {
         granule: 4,
     };
 
-    // The granule of a byte address. A granule of no bytes has no words.
+    // Every digest is read and written in one piece.
+    const DIGEST_GRANULE: usize = 8;
+
+    // The granule of a byte address, in bytes.
+    fn granule_size(self, address: usize) -> usize
+        ensures { λ r. ⌜ r ≡ granuleAt self address ⌝ }
+    {
+        if self.digest <= address {
+            Partition::DIGEST_GRANULE
+        } else {
+            self.granule
+        }
+    }
+
+    // The granule of a byte address, in words. A granule of no bytes has no words.
     pub fn granule_at(self, address: usize) -> Granule
         ensures { λ r. ⌜ (r .word ≡ firstWord self address) × (r .words ≡ wordCount self address) ⌝ }
     {
-        let size = self.granule;
+        let size = self.granule_size(address);
         if size == 0 {
             Granule { word: 0, words: 0 }
         } else {
