@@ -15,7 +15,7 @@ use Rattle.words.proofs.Programming.{kept-refl, kept-trans, program-kept, progr
 use Rattle.model.specs.declared.Answer.{Answer}
 use Rattle.model.specs.declared.Answer.the-variants.{Done, Cleared}
 use Rattle.model.specs.Answers.{codeOf}
-use Rattle.model.specs.Acts.{Turn, Act, say, program, compare, Performed, afterProgram, noting, perform}
+use Rattle.model.specs.Acts.{Turn, stay, Act, say, program, compare, refuse, Performed, afterProgram, noting, perform}
 
 -- what holds of a programming that is done and of one that is refused
 pub after-both {ℓ} : (Q : Performed → Type ℓ) (r : Programmed) (next : Performed) (refused : ℕ → Performed)
@@ -70,6 +70,28 @@ perform-frame (programs {at = at} {words = words} inside next) copy cells j h =
     (λ e. perform-frame next copy (programCells cells at words) j h ∙ program-elsewhere cells words at j (λ l u. h (inside j l u))) (λ cell e. refl)
 perform-frame (compares {test = test} same other) copy cells j h =
     if-both (λ (r : Performed). getD (r .cells) j 0 ≡ getD cells j 0) _ _ _ (λ e. perform-frame same copy cells j h) (λ e. perform-frame other copy cells j h)
+
+-- ---- acts that program once
+
+-- the act refuses, or it programs words that have P from a place on and answers 0 with a value
+pub data Once (P : ℕ → List ℕ → ℕ → Type 0) : Act → Type 0 where
+  refuses : {answer : Answer} → Once P (refuse answer)
+  burns : {at : ℕ} {words : List ℕ} {value : ℕ} → P at words value → Once P (program at words stay (say (Done value) stay))
+
+pub once-if : {P : ℕ → List ℕ → ℕ → Type 0} {b : Bool} {x y : Act} → (b ≡ true → Once P x) → (b ≡ false → Once P y) → Once P (if b then x else y)
+once-if {P} {b} {x} {y} f g = if-both (Once P) b x y f g
+
+-- performed, it leaves every cell, or the words are programmed whole
+pub data Burnt (P : ℕ → List ℕ → ℕ → Type 0) (cells : List ℕ) (r : Performed) : Type 0 where
+  unburnt : r .cells ≡ cells → Burnt P cells r
+  burnt : {at : ℕ} {words : List ℕ} {value : ℕ} → P at words value → programAnswer cells at words ≡ programmed.Done → r .cells ≡ programCells cells at words
+      → r .answer ≡ Done value → Burnt P cells r
+
+pub perform-once : {P : ℕ → List ℕ → ℕ → Type 0} {x : Act} → Once P x → (copy cells : List ℕ) → Burnt P cells (perform x copy cells)
+unfolding perform
+perform-once refuses copy cells = unburnt refl
+perform-once {P} (burns {at = at} {words = words} {value = value} h) copy cells =
+    after-both (Burnt P cells) (programAnswer cells at words) _ _ (λ e. burnt {value = value} h e refl refl) (λ cell e. unburnt refl)
 
 -- ---- the answers that an act may give, with the turns that go with them
 

@@ -3,6 +3,8 @@ pub mod Transitions
 pub mod Frame
 pub mod Steps
 pub mod Locks
+pub mod Burns
+pub mod Digests
 pub mod Ready
 pub mod Writes
 pub mod Chips

@@ -14,6 +14,7 @@ use Rattle.model.proofs.Steps.{bits-stay}
 use Rattle.model.proofs.Locks.{locked-since}
 use Rattle.model.proofs.Writes.{write-taken, reads-back, reads-last}
 use Rattle.model.proofs.Chips.{two-chips}
+use Rattle.model.proofs.Digests.{whole-digests}
 use Rattle.model.proofs.Strokes.{never-four, courses-run}
 use Rattle.model.proofs.Device.{device-final}
 use Rattle.model.proofs.Quiet.{after-unsensed}
@@ -41,6 +42,7 @@ demand3 prims C map F = record {
 pub beyond : (prims : Primitives) → Cipher prims → (map : Map) → fit map ≡ true → Beyond prims map
 beyond prims C map F = record {
   lasting = reads-last prims C map F;
+  whole = λ m r n D l. whole-digests prims map F n D l m r;
   device = device-final prims map F;
   courses = courses-run prims map F;
   sensing = after-unsensed prims map;

@@ -33,7 +33,8 @@ use Rattle.model.specs.Commands.{granule, storedDigest, scrambled, unscr
 use Rattle.model.specs.Step.{Step, unchanged, performed, act, powerUp, step, after, machineAfter, answerTo}
 use Rattle.model.specs.Terms.{Right, Cipher, Digested, spares, storedWords, usedValue, Lasts, Spared, Allowed, TakesEffect}
 use Rattle.model.specs.Demand3.{Ready}
-use Rattle.model.proofs.Acts.{after-both, perform-frame, not-done}
+use Rattle.model.proofs.Acts.{perform-frame, Burnt, unburnt, burnt, perform-once, not-done}
+use Rattle.model.proofs.Burns.{Written, write-once}
 use Rattle.model.proofs.Frame.{Sealed, Aim, Open, unlocked, lifeCycle, life-closed, act-within}
 use Rattle.model.proofs.Steps.{outcome, step-all, cells-length, step-right, after-right, step-constants, after-constants}
 use Rattle.model.proofs.Ready.{step-act, Fresh, first-fresh, step-fresh, after-fresh}
@@ -115,22 +116,6 @@ module _ (prims : Primitives) (C : Cipher prims) (map : Map) (F : fit map ≡ tr
 
   -- ---- what leaves the granule alone
 
-  -- a write either programs its granule and answers 0, or changes nothing
-  data Wrote (m : Machine) (a value : ℕ) (r : Performed) : Type 0 where
-    wrote : a < limit map → codeOf (r .answer) ≡ 0x00
-        → r .cells ≡ programCells (m .lent .cells) (firstWord (partitionAt map a) a) (storedWords prims map (m .lent .constants) a value) → Wrote m a value r
-    left : r .cells ≡ m .lent .cells → Wrote m a value r
-
-  written : (m : Machine) (a value : ℕ) → Wrote m a value (outcome prims map (Write a value) m)
-  unfolding readyAct commandAct writeAct perform
-  written m a value =
-      if-both Q _ _ _ (λ t. left refl) λ t. if-both Q _ _ _ (λ t. left refl) λ l. if-both Q _ _ _ (λ t. left refl) λ t.
-      if-both Q _ _ _ (λ t. left refl) λ t. if-both Q _ _ _ (λ t. left refl) λ t.
-      after-both (Wrote m a value) (programAnswer (m .lent .cells) _ _) _ _ (λ e. wrote (leb-false _ _ l) refl refl) (λ cell e. left refl)
-    where
-      Q : Act → Type 0
-      Q x = Wrote m a value (perform x (m .lent .copy) (m .lent .cells))
-
   module _ (a : ℕ) (below : a < limit map) (direct : rightsOf (partitionAt map a .kind) .direct ≡ true)
       (open? : (rightsOf (partitionAt map a .kind) .hardware && inDigest (partitionAt map a) a) ≡ false) where
     abbrev first : ℕ
@@ -160,12 +145,14 @@ module _ (prims : Primitives) (C : Cipher prims) (map : Map) (F : fit map ≡ tr
 
     word-stays : (x : Command) (m : Machine) → spares map a x (outcome prims map x m .answer) → (j : ℕ) → first ≤ j → j < first + count
         → getD (outcome prims map x m .cells) j 0 ≡ getD (m .lent .cells) j 0
-    word-stays (Write b value) m sp j lo hi = go (written m b value)
+    word-stays (Write b value) m sp j lo hi = go (perform-once (write-once prims map m b value) (m .lent .copy) (m .lent .cells))
       where
-        go : Wrote m b value (outcome prims map (Write b value) m) → getD (outcome prims map (Write b value) m .cells) j 0 ≡ getD (m .lent .cells) j 0
-        go (left e) = rw e
-        go (wrote l e f) =
-            rw f (program-elsewhere (m .lent .cells) _ _ j (λ lo′ hi′. sp (shared-word map F l below lo′ (rw length-words at hi′) lo hi .first) e))
+        go : Burnt (Written prims map m b value) (m .lent .cells) (outcome prims map (Write b value) m)
+            → getD (outcome prims map (Write b value) m .cells) j 0 ≡ getD (m .lent .cells) j 0
+        go (unburnt e) = rw e
+        go (burnt w k f e) =
+            rw (f, w .place, w .holds) (program-elsewhere (m .lent .cells) _ _ j
+            (λ lo′ hi′. sp (shared-word map F (w .below) below lo′ (rw length-words at hi′) lo hi .first) (ap codeOf e)))
     word-stays (Digest b) m sp j lo hi = aimless (Digest b) m j lo hi (not-sealed j lo hi)
     word-stays (Read b) m sp j lo hi = aimless (Read b) m j lo hi (λ z. z)
     word-stays (FrontRead b) m sp j lo hi = aimless (FrontRead b) m j lo hi (λ z. z)

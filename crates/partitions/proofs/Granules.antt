@@ -61,6 +61,14 @@ module _ {p : Partition} (f : FitPartition p) where
   pub scrambled-words : rightsOf (p .kind) .scrambled ≡ true → (a : ℕ) → wordCount p a ≡ 4
   scrambled-words e a = size-words p a 8 (granule-scrambled f e a) .1
 
+  -- in a digest it is the whole digest
+  pub digest-words : {a : ℕ} → a < p .end → rightsOf (p .kind) .direct ≡ true → inDigest p a ≡ true → (firstWord p a ≡ p .digest / 2) × (wordCount p a ≡ 4)
+  unfolding inDigest
+  digest-words {a} u d t =
+      let w = size-words p a 8 (granule-size f a ∙ if-true 8 4 (ap (λ b. b || rightsOf (p .kind) .scrambled) t)) in
+      let l = leb-true (p .digest) a t in
+      (w .0 ∙ omega (arith, f .digest-aligned, f .tail d), w .1)
+
   module _ {a : ℕ} (l : p .start ≤ a) (u : a < p .end) where
     pub granule-words : GranuleWords p a
     granule-words = by-granule f a (λ e. let w = size-words p a 4 e in omega arith) (λ e. let w = size-words p a 8 e in omega arith)
@@ -144,3 +152,8 @@ module _ (map : Map) (fits : fit map ≡ true) where
       let f = partition-fit map fits h in
       let t = f .tail d in
       (partition-word map fits h (omega arith) (omega arith), le-leb (partition map n .digest) (2 * j) (omega arith))
+
+  -- they are the granule of each address of the digest
+  pub digest-granule : {a : ℕ} → a < limit map → rightsOf (partitionAt map a .kind) .direct ≡ true → inDigest (partitionAt map a) a ≡ true
+      → (firstWord (partitionAt map a) a ≡ partitionAt map a .digest / 2) × (wordCount (partitionAt map a) a ≡ 4)
+  digest-granule h d t = let i = inside map fits h in digest-words (i .fits) (i .below) d t

@@ -1,0 +1,168 @@
+-- A digest is never written in part. The idea: the granule of an address in a digest is the whole digest, so a write or a digest command programs all of it
+-- or none; and no other command programs a word of it.
+use mathlib.Core.Path.{_≡_, refl, sym, ap, _∙_}
+use mathlib.Core.Bool.{Bool, true, false, _&&_}
+use mathlib.Core.List.{List, [], _∷_, _++_}
+use Prim.Native.Nat.{ℕ, _+_, _*_, _/_, _%_, _^_, _≤_, _<_}
+use native.Mathlib.Omega.{arith}
+use lib.Dec.{eqb}
+use lib.ListN.{length, getD}
+use borrow.Author.Tests.{eqb-true, eqb-false, eq-eqb}
+use Rattle.basics.proofs.Choice.{by-cases, true-not-false, not-passed, and-left, and-right, and-both, if-false}
+use Rattle.words.specs.declared.Programmed.the-variants as programmed
+use Rattle.words.specs.Words.{numberOf, wordsOf}
+use Rattle.words.specs.Programming.{programAnswer, programCells}
+use Rattle.words.proofs.Words.{length-words, number-words}
+use Rattle.words.proofs.Parts.{part-same}
+use Rattle.words.proofs.Programming.{program-elsewhere, program-takes}
+use Rattle.partitions.specs.declared.Partition.{Partition}
+use Rattle.partitions.specs.Map.{Map, rightsOf, numberAt, partition, partitionAt, limit, inDigest}
+use Rattle.partitions.specs.Fitness.{fit}
+use Rattle.partitions.proofs.KindRights.{soft-plain, hardware-direct}
+use Rattle.partitions.proofs.Map.{inside, partition-at, partition-fit, end-within}
+use Rattle.partitions.proofs.Granules.{word-inside, word-number, digest-word, digest-granule}
+use Rattle.model.specs.declared.Answer.{Answer}
+use Rattle.model.specs.declared.Command.{Command}
+use Rattle.model.specs.declared.Command.the-variants.{Read, Write, FrontRead, Digest, ReadLock, Transition, PowerUp}
+use Rattle.model.specs.Lent.{Machine, Primitives}
+use Rattle.model.specs.Acts.{Performed}
+use Rattle.model.specs.Commands.{storedDigest, scrambled}
+use Rattle.model.specs.Step.{Step, unchanged, performed, act, powerUp, after, machineAfter, answerTo}
+use Rattle.model.specs.Terms.{Right, Digested, storedWords}
+use Rattle.model.specs.Beyond.{Puts, writes, computes, Source, found, put}
+use Rattle.model.proofs.Acts.{perform-frame, Burnt, unburnt, burnt, perform-once}
+use Rattle.model.proofs.Frame.{Aim, Open, unlocked, lifeCycle, life-closed, act-within}
+use Rattle.model.proofs.Steps.{outcome, step-all, cells-length, step-right}
+use Rattle.model.proofs.Burns.{Written, Computed, write-once, digest-once}
+
+module _ (prims : Primitives) (map : Map) (F : fit map ≡ true) (n : ℕ) (D : Digested map n) where
+  abbrev p : Partition
+  p = partition map n
+
+  -- a word of the digest
+  abbrev Word : ℕ → Type 0
+  Word j = (p .digest / 2 ≤ j) × (j < p .digest / 2 + 4)
+
+  word-at : (j : ℕ) → Word j → numberAt map (2 * j) ≡ n
+  word-at j w = digest-word map F (D .known) (D .direct) (w .0) (w .1) .0
+
+  digest-same : (c d : List ℕ) → ((j : ℕ) → Word j → getD c j 0 ≡ getD d j 0) → storedDigest p c ≡ storedDigest p d
+  unfolding storedDigest
+  digest-same c d h = ap numberOf (part-same c d _ 4 (λ j lo hi. h j (lo, hi)))
+
+  -- four words programmed there are the digest
+  digest-taken : (m : Machine) → Right map m → (value : ℕ) → programAnswer (m .lent .cells) (p .digest / 2) (wordsOf 4 value) ≡ programmed.Done
+      → value % 2 ^ 64 ≡ storedDigest p (programCells (m .lent .cells) (p .digest / 2) (wordsOf 4 value))
+  unfolding storedDigest
+  digest-taken m r value e =
+      let f = partition-fit map F (D .known) in
+      let room : p .digest / 2 + 4 ≤ length (m .lent .cells) = omega (arith, f .tail (D .direct), end-within map F (D .known), cells-length prims map m r) in
+      sym (number-words 4 value)
+      ∙ ap numberOf (sym (rw length-words at (program-takes (m .lent .cells) (wordsOf 4 value) (p .digest / 2) (rw length-words room) e)))
+
+  -- words programmed elsewhere leave it
+  digest-left : (c words : List ℕ) (at : ℕ) → ((j : ℕ) → Word j → at ≤ j → j < at + length words → ⊥)
+      → storedDigest p (programCells c at words) ≡ storedDigest p c
+  digest-left c words at h = digest-same _ c (λ j w. program-elsewhere c words at j (h j w))
+
+  -- what a command makes of it
+  data Change (x : Command) (c d : List ℕ) (answer : Answer) : Type 0 where
+    kept : storedDigest p d ≡ storedDigest p c → Change x c d answer
+    puts : Puts map n (storedDigest p d) x answer → Change x c d answer
+
+  abbrev Changes : Command → Machine → Type 0
+  Changes x m = Change x (m .lent .cells) (outcome prims map x m .cells) (outcome prims map x m .answer)
+
+  -- ---- a write
+
+  module _ {m : Machine} {a given at : ℕ} {words : List ℕ} {value : ℕ} (w : Written prims map m a given at words value) where
+    -- in the digest it programs the four words of its data, plain
+    write-inside : partitionAt map a ≡ p → inDigest p a ≡ true → (at ≡ p .digest / 2) × (words ≡ wordsOf 4 given)
+    unfolding scrambled
+    write-inside e d =
+        let h : inDigest (partitionAt map a) a ≡ true = rw e d in
+        let g = digest-granule map F (w .below) (w .direct) h in
+        let soft = not-passed _ (λ t. true-not-false (and-both _ _ t h) (w .not-digest)) in
+        (rw e at (w .place ∙ g .0), w .holds ∙ rw (g .1) (ap (wordsOf 4) (if-false _ _ (soft-plain _ soft))))
+
+    -- a word of the digest that it programs shows that it is in the digest
+    write-meets : (j : ℕ) → Word j → at ≤ j → j < at + length words → (eqb (numberAt map a) n && inDigest p a) ≡ true
+    write-meets j v lo hi =
+        let from = rw (w .place) at lo in
+        let below = rw (w .place, w .holds, length-words) at hi in
+        let e : numberAt map a ≡ n = sym (word-number map F (w .below) from below) ∙ word-at j v in
+        let q = partition-at map a e in
+        let side : inDigest p (2 * j) ≡ inDigest p a = rw q at (word-inside map F (w .below) from below .side) in
+        and-both _ _ (eq-eqb _ _ e) (sym side ∙ digest-word map F (D .known) (D .direct) (v .0) (v .1) .1)
+
+  write-changes : (m : Machine) → Right map m → (a value : ℕ) → Changes (Write a value) m
+  write-changes m r a value = go (perform-once (write-once prims map m a value) (m .lent .copy) (m .lent .cells))
+    where
+      go : Burnt (Written prims map m a value) (m .lent .cells) (outcome prims map (Write a value) m) → Changes (Write a value) m
+      go (unburnt e) = kept (rw e)
+      go (burnt w k f e) =
+          by-cases (eqb (numberAt map a) n && inDigest p a)
+          (λ t.
+          (let q = eqb-true (numberAt map a) n (and-left (eqb (numberAt map a) n) (inDigest p a) t) in
+          let d = and-right (eqb (numberAt map a) n) (inDigest p a) t in
+          let g = write-inside w (partition-at map a q) d in
+          puts (rw (f, e, w .answer, g .0, g .1) (writes q d (digest-taken m r value (rw (g .0, g .1) at k))))))
+          (λ t. kept (rw f (digest-left _ _ _ (λ j v lo hi. true-not-false (write-meets w j v lo hi) t))))
+
+  -- ---- a digest command
+
+  -- it programs words of its partition alone
+  computed-word : {m : Machine} {a at : ℕ} {words : List ℕ} {value : ℕ} → Computed prims map m a at words value
+      → (j : ℕ) → at ≤ j → j < at + length words → numberAt map (2 * j) ≡ numberAt map a
+  unfolding partitionAt
+  computed-word {a = a} w j lo hi =
+      digest-word map F (inside map F (w .below) .known) (hardware-direct _ (w .hard)) (rw (w .place) at lo) (rw (w .place, w .holds, length-words) at hi) .0
+
+  digest-changes : (m : Machine) → Right map m → (a : ℕ) → Changes (Digest a) m
+  digest-changes m r a = go (perform-once (digest-once prims map m a) (m .lent .copy) (m .lent .cells))
+    where
+      go : Burnt (Computed prims map m a) (m .lent .cells) (outcome prims map (Digest a) m) → Changes (Digest a) m
+      go (unburnt e) = kept (rw e)
+      go (burnt w k f e) =
+          by-cases (eqb (numberAt map a) n)
+          (λ t.
+          (let q = partition-at map a (eqb-true _ _ t) in
+          let at-digest = rw q at (w .place) in
+          puts (rw (f, e, at-digest, w .holds) (computes (rw q at (w .first)) (digest-taken m r _ (rw (at-digest, w .holds) at k))))))
+          (λ t. kept (rw f (digest-left _ _ _ (λ j v lo hi. eqb-false _ _ t (sym (computed-word w j lo hi) ∙ word-at j v)))))
+
+  -- ---- every command
+
+  -- a command with no aim programs no word of it
+  aimless : (x : Command) (m : Machine) → ((j : ℕ) → Aim map x j → ⊥) → Changes x m
+  aimless x m h = kept (digest-same _ _ (λ j w. perform-frame (act-within prims map F m x) (m .lent .copy) (m .lent .cells) j (shut j w)))
+    where
+      shut : (j : ℕ) → Word j → Open map x (m .session) j → ⊥
+      shut j w (unlocked r d z aim) = h j aim
+      shut j w (lifeCycle r t e) = true-not-false (D .direct) (rw (partition-at map (2 * j) (word-at j w)) at (life-closed prims map F j e))
+
+  command-changes : (x : Command) (m : Machine) → Right map m → Changes x m
+  command-changes (Write a value) m r = write-changes m r a value
+  command-changes (Digest a) m r = digest-changes m r a
+  command-changes (Read a) m r = aimless (Read a) m (λ j z. z)
+  command-changes (FrontRead a) m r = aimless (FrontRead a) m (λ j z. z)
+  command-changes (ReadLock number) m r = aimless (ReadLock number) m (λ j z. z)
+  command-changes (Transition target high low) m r = aimless (Transition target high low) m (λ j z. z)
+  command-changes PowerUp m r = aimless PowerUp m (λ j z. z)
+
+  step-changes : (x : Command) (m : Machine) → Right map m → Change x (m .lent .cells) (machineAfter prims map x m .lent .cells) (answerTo prims map x m)
+  unfolding unchanged powerUp act performed
+  step-changes x m r =
+      step-all prims map (λ (s : Step). Change x (m .lent .cells) (s .result .machine .lent .cells) (s .result .answer)) x m (λ answer. kept refl) (kept refl)
+      (command-changes x m r)
+
+  pub whole-digests : (l : List Command) (m : Machine) → Right map m → Source prims map m l n (storedDigest p (after prims map l m .lent .cells))
+  unfolding after
+  whole-digests [] m r = found refl
+  whole-digests (x ∷ l) m r = go (step-changes x m r) (whole-digests l (machineAfter prims map x m) (step-right prims map x m r))
+    where
+      go : {digest : ℕ} → Change x (m .lent .cells) (machineAfter prims map x m .lent .cells) (answerTo prims map x m)
+          → Source prims map (machineAfter prims map x m) l n digest → Source prims map m (x ∷ l) n digest
+      go (kept e) (found h) = found (sym e ∙ h)
+      go (puts e) (found h) = put [] x l refl (unfold after in (rw (← h) e))
+      go c (put l₁ y l₂ e h) = put (x ∷ l₁) y l₂ (ap (λ (k : List Command). x ∷ k) e) (unfold after in h)
