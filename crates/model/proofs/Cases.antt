@@ -1,43 +1,45 @@
 -- The table of cases holds: the checker computes each case from the definitions, the cipher and the digest being variables.
-use mathlib.Core.Path.{refl}
-use Prim.Native.Nat.{ℕ}
+use mathlib.Core.Path.{_≡_, refl, ap}
+use mathlib.Core.List.{List, [], _∷_, _++_}
+use Prim.Native.Nat.{ℕ, _^_, _<_}
+use Rattle.words.proofs.Words.{number-block}
 use Rattle.model.specs.Lent.{Primitives}
-use Rattle.model.specs.Cases.{table, Hold}
+use Rattle.model.specs.Cases.{Case, paper, bothSides, hardware, table, Hold, blankDigest}
 use Rattle.model.proofs.Everything.{everything}
 
-pub cases : (prims : Primitives) (keys : ℕ → ℕ) → Hold prims keys table
-unfolding everything table
-cases prims keys = (
-  (refl, tt),
-  (
-    (refl, tt),
-    (
-      (refl, tt),
-      (
-        (refl, tt),
-        (
-          (refl, tt),
-          (
-            (refl, tt),
-            (
-              (refl, tt),
-              (
-                (refl, tt),
-                (
-                  (refl, tt),
-                  (
-                    (refl, tt),
-                    (
-                      (refl, tt),
-                      ((refl, refl), ((refl, tt), ((refl, tt), tt))),
-                    ),
-                  ),
-                ),
-              ),
-            ),
-          ),
-        ),
-      ),
-    ),
-  ),
-)
+infixr 2 _&_
+_&_ : {A B : Type 0} → A → B → A × B
+a & b = (a, b)
+
+module _ (prims : Primitives) (keys : ℕ → ℕ) where
+  hold-append : (xs ys : List Case) → Hold prims keys xs → Hold prims keys ys → Hold prims keys (xs ++ ys)
+  hold-append [] ys h k = k
+  hold-append (x ∷ xs) ys h k = (h .0, hold-append xs ys (h .1) k)
+
+  paper-holds : Hold prims keys paper
+  unfolding everything
+  paper-holds =
+      (refl, tt) & (refl, tt) & (refl, tt) & (refl, tt) & (refl, tt) & (refl, tt) & (refl, tt) & (refl, tt) & (refl, tt) & (refl, tt) & (refl, tt)
+      & (refl, refl) & (refl, tt) & (refl, tt) & tt
+
+  creator-holds : Hold prims keys (bothSides 0x000)
+  unfolding everything
+  creator-holds = (refl, refl) & (refl, refl) & (refl, refl) & (refl, refl) & (refl, refl) & (refl, tt) & (refl, tt) & (refl, tt) & tt
+
+  owner-holds : Hold prims keys (bothSides 0x100)
+  unfolding everything
+  owner-holds = (refl, refl) & (refl, refl) & (refl, refl) & (refl, refl) & (refl, refl) & (refl, tt) & (refl, tt) & (refl, tt) & tt
+
+  -- the words of a number of 64 bits stand for it
+  hardware-holds : blankDigest prims keys < 2 ^ 64 → Hold prims keys (hardware (blankDigest prims keys) ∷ [])
+  unfolding everything
+  hardware-holds h =
+      let d = blankDigest prims keys in
+      ((ap (λ (x : ℕ). (0x00, 0) ∷ (0x00, d) ∷ (0x00, 0) ∷ (0x00, x) ∷ (0x00, x) ∷ (0x00, x) ∷ (0x00, x) ∷ (0x05, 0) ∷ []) (number-block d h), tt), tt)
+
+  pub cases : blankDigest prims keys < 2 ^ 64 → Hold prims keys (table (blankDigest prims keys))
+  unfolding table
+  cases h =
+      let creator = hold-append paper (bothSides 0x000) paper-holds creator-holds in
+      let owner = hold-append (paper ++ bothSides 0x000) (bothSides 0x100) creator owner-holds in
+      hold-append (paper ++ bothSides 0x000 ++ bothSides 0x100) (hardware (blankDigest prims keys) ∷ []) owner (hardware-holds h)

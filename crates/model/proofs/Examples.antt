@@ -15,7 +15,7 @@ use Rattle.basics.proofs.Bits.{xor-xor}
 use Rattle.partitions.specs.Map.{numberAt, partition, partitionAt, inDigest, firstWord}
 use Rattle.partitions.specs.Map1.{map1}
 use Rattle.partitions.proofs.Map1.{map1-fit}
-use Rattle.model.specs.declared.Answer.the-variants.{Done, Denied}
+use Rattle.model.specs.declared.Answer.the-variants.{Done, Cleared, Denied}
 use Rattle.model.specs.declared.Command.{Command}
 use Rattle.model.specs.declared.Command.the-variants.{Read, Write, FrontRead, Digest, ReadLock, Transition, PowerUp}
 use Rattle.model.specs.Lent.{Machine}
@@ -23,13 +23,14 @@ use Rattle.life_cycle.specs.declared.LifeCycle.the-variants.{Valid}
 use Rattle.model.specs.Commands.{storedDigest}
 use Rattle.model.specs.PowerUp.{lifeCycleIn}
 use Rattle.model.specs.Step.{after, answers, machineAfter, answerTo}
-use Rattle.model.specs.Cases.{blank}
+use Rattle.model.specs.Cases.{blank, number, table, Hold}
 use Rattle.model.specs.Terms.{Right, Cipher, Digested, Lasts, Spared, usedValue, Allowed, Matched, HiddenWord, Alike}
 use Rattle.model.specs.Demand3.{Demand3, Ready}
 use Rattle.model.specs.Session.{readLocked}
-use Rattle.model.specs.Beyond.{Beyond, stays, moves}
+use Rattle.model.specs.Beyond.{Beyond, Puts, writes, Source, put, stays, moves}
 use Rattle.model.proofs.Everything.{everything}
-use Rattle.model.proofs.ToyChip.{toy, off, tested}
+use Rattle.model.proofs.Cases.{cases}
+use Rattle.model.proofs.ToyChip.{toyWith, toy, off, tested}
 use Rattle.model.proofs.Theorems.{refusals, demand3, beyond}
 use Rattle.model.proofs.Strokes.{rising}
 
@@ -133,6 +134,33 @@ found-locked = refl
 refused-since : answerTo toy map1 (Write 0x000 0xFF) (after toy map1 (locking ++ PowerUp ∷ []) (off blank)) ≡ Denied
 unfolding everything locking
 refused-since = refl
+
+-- ---- a digest in one piece: the other half of CREATOR_SW_CFG's is refused, so that after the next power-up it still is what one write put there
+
+halves : List Command
+halves = PowerUp ∷ Write 0x0F8 1 ∷ Write 0x0FC 0x100000000 ∷ PowerUp ∷ []
+
+halves-answer : answers toy map1 halves (off blank) ≡ Done 0 ∷ Done 0 ∷ Cleared 124 ∷ Done 0 ∷ []
+unfolding everything halves
+halves-answer = refl
+
+put-whole : Source toy map1 (off blank) halves 0 1
+unfolding everything halves
+put-whole = put (PowerUp ∷ []) (Write 0x0F8 1) (Write 0x0FC 0x100000000 ∷ PowerUp ∷ []) refl (writes refl refl refl)
+
+-- the digest that is stored then, of which the theorem speaks
+stored-whole : storedDigest (partition map1 0) (after toy map1 halves (off blank) .lent .cells) ≡ 1
+unfolding everything halves
+stored-whole = refl
+
+-- a write of one half is no source of both
+half-put : Puts map1 0 0x100000001 (Write 0x0FC 0x100000000) (Done 0) → ⊥
+half-put (writes n d e) = omega arith
+
+-- ---- the table of cases, with a digest of 64 bits
+
+wide-cases : Hold (toyWith (λ words. number)) (λ i. 0) (table number)
+wide-cases = cases (toyWith (λ words. number)) (λ i. 0) (lit< tt)
 
 -- ---- two chips: SECRET0 locked on both with digest 1, and one word of its data (at 0x250) different
 

@@ -1,9 +1,9 @@
--- The 14 cases of document 01 in one table, over Map 1, for any keys, digest constants, cipher and digest.
-use Prim.Native.Nat.{ℕ}
+-- The 14 cases of document 01 and those of request Two in one table, over Map 1, for any keys, digest constants, cipher and digest.
+use Prim.Native.Nat.{ℕ, _+_, _-_, _/_}
 use mathlib.Core.Path.{_≡_}
 use mathlib.Core.List.{List, [], _∷_, _++_, map}
 use mathlib.Core.Option.{Option, none, some}
-use lib.ListN.{replicate}
+use lib.ListN.{length, replicate}
 use Rattle.basics.specs.Range.{listed}
 use Rattle.partitions.specs.Map1.{map1}
 use Rattle.model.specs.declared.Answer.{Answer}
@@ -11,7 +11,7 @@ use Rattle.model.specs.declared.Command.{Command}
 use Rattle.model.specs.declared.Command.the-variants.{Read, Write, FrontRead, Digest, ReadLock, Transition, PowerUp}
 use Rattle.model.specs.Answers.{codeOf, valueOf}
 use Rattle.model.specs.Session.{freshSession}
-use Rattle.model.specs.Lent.{Machine, Primitives}
+use Rattle.model.specs.Lent.{Machine, Primitives, digestStart, digestFinal}
 use Rattle.model.specs.Step.{after, answers}
 
 -- a case: the cells at first, commands, the codes and values that they answer, and where it is said, the cells afterwards
@@ -32,9 +32,9 @@ spent = replicate 404 0 ++ replicate 24 3 ++ replicate 20 0
 abbrev pub case : List Command → List (ℕ × ℕ) → Case
 case commands expected = record { cells = blank; commands = commands; expected = expected; left = none }
 
--- the hashed RAW token of the cases is 7
-unfoldable pub table : List Case
-table =
+-- The cases of document 01, case 7 as request Two has it; the hashed RAW token of the cases is 7.
+abbrev pub paper : List Case
+paper =
     -- 1. Blank power-up: 0, value 0.
     case (PowerUp ∷ []) ((0x00, 0) ∷ [])
     -- 2. Blank read at 0x327: 0; at 0x328, 0x37F, 0x380: 5.
@@ -47,8 +47,9 @@ table =
     ∷ case (PowerUp ∷ Write 0x248 1 ∷ []) ((0x00, 0) ∷ (0x05, 0) ∷ [])
     -- 6. Digest at 0x000 or 0x204: 5.
     ∷ case (PowerUp ∷ Digest 0x000 ∷ Digest 0x204 ∷ []) ((0x00, 0) ∷ (0x05, 0) ∷ (0x05, 0) ∷ [])
-    -- 7. Write 1 at 0x0F8, then at 0x004: 0. After power-up 0x004: 5.
-    ∷ case (PowerUp ∷ Write 0x0F8 1 ∷ Write 0x004 1 ∷ PowerUp ∷ Write 0x004 3 ∷ []) ((0x00, 0) ∷ (0x00, 0) ∷ (0x00, 0) ∷ (0x00, 0) ∷ (0x05, 0) ∷ [])
+    -- 7. Write 1 at 0x0F8, "one 64-bit write", then at 0x004: 0. After power-up 0x004: 5.
+    ∷ case (PowerUp ∷ Write 0x0F8 1 ∷ Read 0x0FC ∷ Write 0x004 1 ∷ PowerUp ∷ Write 0x004 3 ∷ [])
+    ((0x00, 0) ∷ (0x00, 0) ∷ (0x00, 1) ∷ (0x00, 0) ∷ (0x00, 0) ∷ (0x05, 0) ∷ [])
     -- 8. Partition 0 read-locked: read 0x000 is 5, 0x0F8 is 0.
     ∷ case (PowerUp ∷ ReadLock 0 ∷ Read 0x000 ∷ Read 0x0F8 ∷ []) ((0x00, 0) ∷ (0x00, 0) ∷ (0x05, 0) ∷ (0x00, 0) ∷ [])
     -- 9. RAW to state 1, right token: 0; any next command but power-up: 7; power-up: 257.
@@ -67,6 +68,59 @@ table =
     ∷ case (PowerUp ∷ Write 0x200 0x99 ∷ FrontRead 0x200 ∷ Read 0x200 ∷ PowerUp ∷ FrontRead 0x200 ∷ Read 0x200 ∷ [])
     ((0x00, 0) ∷ (0x00, 0) ∷ (0x00, 0) ∷ (0x00, 0x99) ∷ (0x00, 0) ∷ (0x00, 0x99) ∷ (0x00, 0x99) ∷ [])
     ∷ []
+
+-- four words, the lowest first, and the number of 64 bits that they stand for
+abbrev pub words : List ℕ
+words = 0x7788 ∷ 0x5566 ∷ 0x3344 ∷ 0x1122 ∷ []
+
+abbrev pub number : ℕ
+number = 0x1122334455667788
+
+-- cells with some words from a word on, blank elsewhere
+abbrev pub holding : ℕ → List ℕ → List ℕ
+holding at ws = replicate at 0 ++ ws ++ replicate (448 - at - length ws) 0
+
+-- Request Two, both sides of 0x0F8 and 0x0FC, in the partition of 0x100 bytes that starts at s.
+module _ (s : ℕ) where
+  -- a write of the number leaves these words from this address on, and no others
+  abbrev pub burns : ℕ → ℕ → List ℕ → Case
+  burns a first ws = record {
+    cells = blank;
+    commands = PowerUp ∷ Write (s + a) number ∷ [];
+    expected = (0x00, 0) ∷ (0x00, 0) ∷ [];
+    left = some (holding ((s + first) / 2) ws);
+  }
+
+  abbrev pub bothSides : List Case
+  bothSides =
+      -- A write at 0x0F7 is 4 bytes of data; 0x0F8 to 0x0FF are one granule of 8.
+      burns 0xF7 0xF4 (0x7788 ∷ 0x5566 ∷ [])
+      ∷ burns 0xF8 0xF8 words
+      ∷ burns 0xFB 0xF8 words
+      ∷ burns 0xFC 0xF8 words
+      ∷ burns 0xFF 0xF8 words
+      -- So it is read.
+      ∷ record {
+        cells = holding ((s + 0xF8) / 2) words;
+        commands = PowerUp ∷ Read (s + 0xF7) ∷ Read (s + 0xF8) ∷ Read (s + 0xFB) ∷ Read (s + 0xFC) ∷ Read (s + 0xFF) ∷ Read (s + 0x100) ∷ [];
+        expected = (0x00, 0) ∷ (0x00, 0) ∷ (0x00, number) ∷ (0x00, number) ∷ (0x00, number) ∷ (0x00, number) ∷ (0x00, 0) ∷ [];
+        left = none;
+      }
+      -- One half is not written after the other: the second write has a 0 where the first has set a bit.
+      ∷ case (PowerUp ∷ Write (s + 0xF8) 1 ∷ Write (s + 0xFC) 0x100000000 ∷ []) ((0x00, 0) ∷ (0x00, 0) ∷ (0x04, 0) ∷ [])
+      -- A digest whose low half is zero locks like any other.
+      ∷ case (PowerUp ∷ Write (s + 0xF8) 0x100000000 ∷ PowerUp ∷ Write (s + 0xF7) 1 ∷ Write (s + 0xF8) 0x100000001 ∷ [])
+      ((0x00, 0) ∷ (0x00, 0) ∷ (0x00, 0) ∷ (0x05, 0) ∷ (0x05, 0) ∷ [])
+      ∷ []
+
+-- Request Two, a hardware digest: reads of 0x248 and 0x24C answer its 64 bits. The digest of a blank HW_CFG is given.
+abbrev pub hardware : ℕ → Case
+hardware digest =
+    case (PowerUp ∷ Digest 0x200 ∷ Read 0x247 ∷ Read 0x248 ∷ Read 0x24B ∷ Read 0x24C ∷ Read 0x24F ∷ Write 0x24C 1 ∷ [])
+    ((0x00, 0) ∷ (0x00, digest) ∷ (0x00, 0) ∷ (0x00, digest) ∷ (0x00, digest) ∷ (0x00, digest) ∷ (0x00, digest) ∷ (0x05, 0) ∷ [])
+
+unfoldable pub table : ℕ → List Case
+table digest = paper ++ bothSides 0x000 ++ bothSides 0x100 ++ hardware digest ∷ []
 
 module _ (prims : Primitives) (keys : ℕ → ℕ) where
   -- any keys and digest constants; each C and A is 1, each D and B 3; the hashed RAW token is 7
@@ -91,3 +145,7 @@ module _ (prims : Primitives) (keys : ℕ → ℕ) where
       ((map said (answers prims map1 (c .commands) (chip (c .cells))) ≡ c .expected)
       × leaves (c .left) (after prims map1 (c .commands) (chip (c .cells)) .lent .cells))
       × Hold cs
+
+  -- the digest of a blank HW_CFG, 36 words
+  abbrev pub blankDigest : ℕ
+  blankDigest = prims .digest (digestStart constants) (digestFinal constants) (replicate 36 0)
