@@ -33,7 +33,7 @@ use Rattle.model.specs.Beyond.{Puts, writes, computes, Source, found, pu
 use Rattle.model.proofs.Acts.{perform-frame, Burnt, unburnt, burnt, perform-once}
 use Rattle.model.proofs.Frame.{Aim, Open, unlocked, lifeCycle, life-closed, act-within}
 use Rattle.model.proofs.Steps.{outcome, step-all, cells-length, step-right}
-use Rattle.model.proofs.Burns.{Written, Computed, write-once, digest-once}
+use Rattle.model.proofs.Targets.{Written, Computed, write-once, digest-once}
 
 module _ (prims : Primitives) (map : Map) (F : fit map ≡ true) (n : ℕ) (D : Digested map n) where
   abbrev p : Partition

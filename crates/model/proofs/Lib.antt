@@ -3,7 +3,7 @@ pub mod Transitions
 pub mod Frame
 pub mod Steps
 pub mod Locks
-pub mod Burns
+pub mod Targets
 pub mod Digests
 pub mod Ready
 pub mod Writes

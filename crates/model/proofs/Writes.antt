@@ -34,7 +34,7 @@ use Rattle.model.specs.Step.{Step, unchanged, performed, act, powerUp, s
 use Rattle.model.specs.Terms.{Right, Cipher, Digested, spares, storedWords, usedValue, Lasts, Spared, Allowed, TakesEffect}
 use Rattle.model.specs.Demand3.{Ready}
 use Rattle.model.proofs.Acts.{perform-frame, Burnt, unburnt, burnt, perform-once, not-done}
-use Rattle.model.proofs.Burns.{Written, write-once}
+use Rattle.model.proofs.Targets.{Written, write-once}
 use Rattle.model.proofs.Frame.{Sealed, Aim, Open, unlocked, lifeCycle, life-closed, act-within}
 use Rattle.model.proofs.Steps.{outcome, step-all, cells-length, step-right, after-right, step-constants, after-constants}
 use Rattle.model.proofs.Ready.{step-act, Fresh, first-fresh, step-fresh, after-fresh}
