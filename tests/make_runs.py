@@ -157,7 +157,8 @@ CASES = [
     ("0x0F, then 0xF0, then 0xFF at 0", UP + write(0, 0x0F) + write(0, 0xF0) + write(0, 0xFF), lines((7, 0, 0), (2, 0, 0), (2, 4, 0), (2, 0, 0)), BLANK),
     ("a write at a hardware digest", UP + write(0x248, 1), lines((7, 0, 0), (2, 5, 0)), BLANK),
     ("digest commands at no start of 2 to 5", UP + digest(0x000) + digest(0x204), lines((7, 0, 0), (4, 5, 0), (4, 5, 0)), BLANK),
-    ("a written digest locks from the next power-up", UP + write(0x0F8, 1) + write(0x004, 1) + UP + write(0x004, 3), lines((7, 0, 0), (2, 0, 0), (2, 0, 0), (7, 0, 0), (2, 5, 0)), BLANK),
+    ("a digest, written in one piece, locks from the next power-up", UP + write(0x0F8, 1) + read(0x0FC) + write(0x004, 1) + UP + write(0x004, 3),
+     lines((7, 0, 0), (2, 0, 0), (1, 0, 1), (2, 0, 0), (7, 0, 0), (2, 5, 0)), BLANK),
     ("a read lock hides data and not the digest", UP + lock(0) + read(0x000) + read(0x0F8), lines((7, 0, 0), (5, 0, 0), (1, 5, 0), (1, 0, 0)), BLANK),
     ("RAW to state 1, then only a power-up", UP + move(1, RAW_TOKEN) + read(0) + write(0, 0) + front(0x200) + digest(0x200) + lock(0) + move(1, RAW_TOKEN) + UP,
      lines((7, 0, 0), (6, 0, 0), (1, 7, 0), (2, 7, 0), (3, 7, 0), (4, 7, 0), (5, 7, 0), (6, 7, 0), (7, 0, 257)), BLANK),
@@ -171,13 +172,38 @@ CASES = [
 for i, (about, script, expected, image) in enumerate(CASES):
     run("case_%02d" % (i + 1), "case %d: %s" % (i + 1, about), script, expected, image)
 
+# ---- digests in one piece: both sides of 0x0F8 and 0x0FC, the same from 0x1F8 on, and the hardware's digests
+NUMBER = 0x1122334455667788
+
+
+def about(start):
+    """Reads on both sides of a software digest, and their lines once the number is stored there."""
+    places = (0xF4, 0xF7, 0xF8, 0xFB, 0xFC, 0xFF, 0x100)
+    return b"".join(read(start + a) for a in places), [(1, 0, NUMBER if 0xF8 <= a <= 0xFF else 0) for a in places]
+
+
+for name, start in (("creator", 0x000), ("owner", 0x100)):
+    reads, shown = about(start)
+    run("%s_data_before_digest" % name, "a write at 0x%03X is 4 bytes of data and locks nothing" % (start + 0xF7),
+        UP + write(start + 0xF7, NUMBER) + read(start + 0xF3) + read(start + 0xF4) + read(start + 0xF8) + UP + write(start, 1),
+        lines((7, 0, 0), (2, 0, 0), (1, 0, 0), (1, 0, NUMBER % 2**32), (1, 0, 0), (7, 0, 0), (2, 0, 0)))
+    for a in (0xF8, 0xFB, 0xFC, 0xFF):
+        run("%s_digest_at_%03x" % (name, start + a), "a write at 0x%03X is the 8 bytes of the digest, before the next power-up and after" % (start + a),
+            UP + write(start + a, NUMBER) + reads + UP + reads + write(start, 1) + write(start + 0xF8, 2**64 - 1),
+            lines((7, 0, 0), (2, 0, 0), *shown, (7, 0, 0), *shown, (2, 5, 0), (2, 5, 0)))
+    run("%s_digest_halves" % name, "one half of a digest is not written after the other", UP + write(start + 0xF8, 1) + write(start + 0xFC, 1 << 32) + read(start + 0xFC) + UP,
+        lines((7, 0, 0), (2, 0, 0), (2, 4, 0), (1, 0, 1), (7, 0, 0)))
+    run("%s_digest_high_half" % name, "a digest whose low half is zero locks like any other",
+        UP + write(start + 0xFC, 1 << 32) + UP + write(start + 0xF7, 1) + write(start + 0xF8, (1 << 32) + 1) + read(start + 0xF8),
+        lines((7, 0, 0), (2, 0, 0), (7, 0, 0), (2, 5, 0), (2, 5, 0), (1, 0, 1 << 32)))
+run("hardware_digest_reads", "a read anywhere in a hardware digest answers its 64 bits, beside its data and the next partition's; a write there is refused",
+    UP + b"".join(digest(a) for a in (0x200, 0x250, 0x278, 0x2D0)) + b"".join(read(a + d) + write(a + 4, 1) for a in (0x248, 0x270, 0x2C8, 0x320) for d in (-1, 0, 3, 4, 7, 8)))
+
 # ---- what the paper leaves to its general rules
 run("target_equals_state", "a target equal to the state is not in the table: the stroke is spent, then 0x21", UP + move(1, RAW_TOKEN) + UP + move(1, RAW_TOKEN) + UP,
     lines((7, 0, 0), (6, 0, 0), (7, 0, 257), (6, 0x21, 0), (7, 0, 513)))
 run("target_21_without_strokes", "0x11 comes before 0x20", UP + move(21) + read(0), lines((7, 0, 6144), (6, 0x11, 0), (1, 0, 0)), life(24, state(0)))
 run("test_to_rma", "TEST_UNLOCKED0 to RMA needs no token", UP + move(19) + UP, lines((7, 0, 257), (6, 0, 0), (7, 0, 531)), life(1, state(1)))
-run("half_a_digest", "half of a software digest locks the other half at the next power-up", UP + write(0x0F8, 1) + UP + write(0x0FC, 1) + write(0, 1),
-    lines((7, 0, 0), (2, 0, 0), (7, 0, 0), (2, 5, 0), (2, 5, 0)))
 run("read_locked_write", "a read lock stops no write, and there is none past 1", UP + lock(1) + write(0x100, 7) + read(0x100) + lock(2) + lock(255),
     lines((7, 0, 0), (5, 0, 0), (2, 0, 0), (1, 5, 0), (5, 5, 0), (5, 5, 0)))
 run("too_long_without_files", "a script that is too long comes before the files", UP * 65537, b"00 14 0000000000000000\nend 1\n", None, None)
@@ -193,7 +219,7 @@ TOKENS = (write(0x250, TEST_UNLOCK % 2**64) + write(0x258, TEST_UNLOCK >> 64) + 
 FILL = (b"".join(write(a, 0x01010101 * (a % 251) + a) for a in range(0, 0xF8, 4)) + b"".join(write(a, 0x10001 * a) for a in range(0x100, 0x1F8, 4))
         + b"".join(write(a, 0xD00D0000 + a) for a in range(0x200, 0x248, 4)) + TOKENS
         + b"".join(write(a, 0x0123456789ABCDEF ^ a) for a in range(0x278, 0x2C8, 8)) + b"".join(write(a, 0xFEDCBA9876543210 ^ a) for a in range(0x2E0, 0x320, 8)))
-DIGESTS = digest(0x200) + digest(0x250) + digest(0x278) + digest(0x2D0) + write(0x0F8, 0xC0DE) + write(0x0FC, 1) + write(0x1F8, 2) + write(0x1FC, 0xFEED)
+DIGESTS = digest(0x200) + digest(0x250) + digest(0x278) + digest(0x2D0) + write(0x0F8, 0x10000C0DE) + write(0x1FC, 0xFEED00000002)
 SHOW = b"".join(read(a) for a in range(0, 0x380, 0x24)) + b"".join(front(a) for a in range(0x200, 0x220, 4)) + read(0x248) + read(0x270) + read(0x320)
 TRY = b"".join(write(a, 0xFFFFFFFFFFFFFFFF) + digest(a) for a in (0, 0x100, 0x200, 0x250, 0x278, 0x2D0))
 run("provisioning", "all partitions written, digests, a power-up; then locked reads and writes, and front reads of the DEVICE_ID", UP + FILL + SHOW + DIGESTS + SHOW + UP + SHOW + TRY + lock(0) + lock(1) + lock(2) + SHOW)

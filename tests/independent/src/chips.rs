@@ -120,8 +120,9 @@ fn written(constants: &[u16], skip: u64, random: &mut Random) -> Chip {
             continue;
         }
         if number < HW_CFG {
-            chip.execute(Command::Write(partition.digest, random.number()));
-            chip.execute(Command::Write(partition.digest + 4, random.number()));
+            let address = partition.digest + random.below(8) as u32;
+            let digest = random.number() | 1 << random.below(64);
+            chip.execute(Command::Write(address, digest));
         } else {
             chip.execute(Command::Digest(partition.start));
         }

@@ -15,6 +15,7 @@ pub struct Partition {
     /// The end where there is no digest.
     pub digest: u32,
     pub end: u32,
+    /// Bytes in a granule of the data.
     pub granule: u32,
     pub sort: Sort,
 }
@@ -55,8 +56,11 @@ impl Partition {
         words(self.digest, self.end)
     }
 
-    /// Words of the granule at an address of this partition.
+    /// Words of the granule at an address of this partition; a digest is one.
     pub fn granule_words(&self, address: u32) -> Range<usize> {
+        if self.in_digest(address) {
+            return self.digest_words();
+        }
         let first = address / self.granule * self.granule;
         words(first, first + self.granule)
     }
@@ -102,6 +106,18 @@ mod tests {
         }
         assert_eq!(MAP[0].granule_words(0x007), 2..4);
         assert_eq!(MAP[3].granule_words(0x25f), 0x12c..0x130);
+    }
+
+    #[test]
+    fn a_digest_is_one_granule_of_8_bytes() {
+        assert_eq!(MAP[0].granule_words(0x0f7), 0x7a..0x7c);
+        for partition in &MAP[..LIFE_CYCLE] {
+            for address in partition.digest..partition.end {
+                let first = partition.digest as usize / 2;
+                assert_eq!(partition.granule_words(address), first..first + 4);
+            }
+        }
+        assert_eq!(MAP[6].granule_words(0x37f), 0x1be..0x1c0);
     }
 
     #[test]

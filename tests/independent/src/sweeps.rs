@@ -3,7 +3,7 @@
 use crate::chips;
 use crate::constants::{A, B, C, D};
 use crate::life_cycle::{token_between, SCRAP};
-use crate::map::{CELLS, HW_CFG, MAP};
+use crate::map::{CELLS, HW_CFG, LIFE_CYCLE, MAP};
 use crate::model::{Chip, Command};
 use crate::random::Random;
 use crate::scenarios::Run;
@@ -14,6 +14,7 @@ use Command::{Digest, FrontRead, PowerUp, Read, ReadLock, Transition, Write};
 pub fn runs(random: &mut Random) -> Vec<Run> {
     let constants = chips::constants(random);
     let mut runs = addresses(&constants, random);
+    runs.extend(digest_edges(&constants));
     runs.extend(numbers(&constants));
     runs.extend(broken_scripts(&constants));
     runs.extend(broken_constants(&constants));
@@ -48,6 +49,24 @@ fn addresses(constants: &[u16], random: &mut Random) -> Vec<Run> {
             commands.extend((0..0x380).step_by(4).map(Read));
             commands.push(PowerUp);
             runs.push(Run::of(&commands, &cells, constants));
+        }
+    }
+    runs
+}
+
+/// A write at every address about a digest, alone on a blank chip, of both
+/// halves and of each; what is read about it, and the power-up after it.
+fn digest_edges(constants: &[u16]) -> Vec<Run> {
+    let digests = MAP[..LIFE_CYCLE].iter();
+    let addresses = digests.flat_map(|partition| partition.digest - 8..partition.end + 8);
+    let mut runs = Vec::new();
+    for address in addresses {
+        for data in [0x8877_6655_4433_2211, 1, 1 << 32] {
+            let mut commands = vec![PowerUp, Write(address, data)];
+            commands.extend((address - 8..address + 8).map(Read));
+            commands.push(Write(address ^ 4, data << 32 | data >> 32));
+            commands.extend([PowerUp, Read(address), Write(address, u64::MAX)]);
+            runs.push(Run::of(&commands, &blank(), constants));
         }
     }
     runs
@@ -171,6 +190,19 @@ fn damages(constants: &[u16], random: &mut Random) -> Vec<Run> {
 #[cfg(test)]
 mod tests {
     use super::*;
+
+    #[test]
+    fn only_a_software_digest_locks_by_a_write() {
+        let constants = chips::constants(&mut Random::new(43));
+        let runs = digest_edges(&constants);
+        assert_eq!(runs.len(), 6 * 24 * 3);
+        let locked = |run: &&Run| {
+            run.printed()
+                .ends_with("\n02 05 0000000000000000\nend 22\n")
+        };
+        // Two software digests of 8 addresses; four of the hardware's, and 8 addresses of LIFE_CYCLE.
+        assert_eq!(runs.iter().filter(locked).count(), (2 * 8 + 4 * 8 + 8) * 3);
+    }
 
     #[test]
     fn damage_is_always_told() {

@@ -1,4 +1,5 @@
-//! The 14 cases of the paper, and rules about the record beside them.
+//! The 14 cases of the paper, those of request Two, and rules about the record
+//! beside them.
 
 use crate::constants::{example, raw_token};
 use crate::life_cycle::{counter_words, state_words};
@@ -100,11 +101,83 @@ fn case_06_digest_at_a_start_only() {
 fn case_07_software_digest_locks_from_power_up() {
     let steps = [
         (Write(0x0f8, 1), 0, 0),
+        (Read(0x0fc), 0, 1),
         (Write(0x004, 1), 0, 0),
         (PowerUp, 0, 0),
         (Write(0x004, 1), 5, 0),
     ];
     expect(&mut ready(), &steps);
+}
+
+const NUMBER: u64 = 0x1122_3344_5566_7788;
+const WORDS: [u16; 4] = [0x7788, 0x5566, 0x3344, 0x1122];
+
+/// Cells that hold some words from a byte address on, and are blank elsewhere.
+fn holding(address: u32, words: &[u16]) -> Vec<u16> {
+    let mut cells = vec![0; CELLS];
+    let first = address as usize / 2;
+    cells[first..first + words.len()].copy_from_slice(words);
+    cells
+}
+
+#[test]
+fn a_software_digest_is_written_in_one_piece() {
+    for start in [0x000, 0x100] {
+        for address in start + 0xf0..start + 0x100 {
+            let mut chip = ready();
+            expect(&mut chip, &[(Write(address, NUMBER), 0, 0)]);
+            let left = match address < start + 0xf8 {
+                true => holding(address & !3, &WORDS[..2]),
+                false => holding(start + 0xf8, &WORDS),
+            };
+            assert_eq!(chip.cells, left, "{address:x}");
+        }
+    }
+}
+
+#[test]
+fn a_digest_is_read_in_one_piece() {
+    for start in [0x000, 0x100] {
+        let cells = holding(start + 0xf8, &WORDS);
+        let mut chip = powered(Chip::new(cells, example()));
+        for address in start + 0xf8..start + 0x100 {
+            expect(&mut chip, &[(Read(address), 0, NUMBER)]);
+        }
+        let next = [(Read(start + 0xf7), 0, 0), (Read(start + 0x100), 0, 0)];
+        expect(&mut chip, &next);
+    }
+    let mut chip = ready();
+    let digest = chip.computed_digest(2);
+    assert!(digest >> 32 != 0 && digest << 32 != 0);
+    expect(
+        &mut chip,
+        &[(Digest(0x200), 0, digest), (Read(0x247), 0, 0)],
+    );
+    for address in 0x248..0x250 {
+        let steps = [(Read(address), 0, digest), (Write(address, digest), 5, 0)];
+        expect(&mut chip, &steps);
+    }
+}
+
+#[test]
+fn no_half_of_a_digest_is_written_after_the_other() {
+    for start in [0x000, 0x100] {
+        let (low, high) = (start + 0xf8, start + 0xfc);
+        let halves = [
+            (Write(low, 1), 0, 0),
+            (Write(high, 1 << 32), 4, 0),
+            (Read(high), 0, 1),
+        ];
+        expect(&mut ready(), &halves);
+        let locked = [
+            (Write(low, 1 << 32), 0, 0),
+            (PowerUp, 0, 0),
+            (Write(start + 0xf7, 1), 5, 0),
+            (Write(low, 1 << 32 | 1), 5, 0),
+            (Read(low), 0, 1 << 32),
+        ];
+        expect(&mut ready(), &locked);
+    }
 }
 
 #[test]
