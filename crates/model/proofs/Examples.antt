@@ -2,7 +2,7 @@
 use mathlib.Core.Path.{_≡_, refl, sym, subst}
 use mathlib.Core.Bool.{true, false}
 use mathlib.Core.List.{List, [], _∷_, _++_}
-use Prim.Native.Nat.{ℕ, _≤_, _<_}
+use Prim.Native.Nat.{ℕ, _^_, _≤_, _<_}
 use native.Mathlib.Omega.{arith}
 use lib.Bits.{xor-lt}
 use lib.Dec.{eqb, ltb, lit<}
@@ -23,13 +23,12 @@ use Rattle.life_cycle.specs.declared.LifeCycle.the-variants.{Valid}
 use Rattle.model.specs.Commands.{storedDigest}
 use Rattle.model.specs.PowerUp.{lifeCycleIn}
 use Rattle.model.specs.Step.{after, answers, machineAfter, answerTo}
-use Rattle.model.specs.Cases.{blank, number, table, Hold}
+use Rattle.model.specs.Cases.{blank, number, blankDigest}
 use Rattle.model.specs.Terms.{Right, Cipher, Digested, Lasts, Spared, usedValue, Allowed, Matched, HiddenWord, Alike}
 use Rattle.model.specs.Demand3.{Demand3, Ready}
 use Rattle.model.specs.Session.{readLocked}
 use Rattle.model.specs.Beyond.{Beyond, Puts, writes, Source, put, stays, moves}
 use Rattle.model.proofs.Everything.{everything}
-use Rattle.model.proofs.Cases.{cases}
 use Rattle.model.proofs.ToyChip.{toyWith, toy, off, tested}
 use Rattle.model.proofs.Theorems.{refusals, demand3, beyond}
 use Rattle.model.proofs.Strokes.{rising}
@@ -157,10 +156,10 @@ stored-whole = refl
 half-put : Puts map1 0 0x100000001 (Write 0x0FC 0x100000000) (Done 0) → ⊥
 half-put (writes n d e) = omega arith
 
--- ---- the table of cases, with a digest of 64 bits
+-- ---- what the table of cases asks: the digest of a blank HW_CFG is a number of 64 bits
 
-wide-cases : Hold (toyWith (λ words. number)) (λ i. 0) (table number)
-wide-cases = cases (toyWith (λ words. number)) (λ i. 0) (lit< tt)
+blank-digest : blankDigest (toyWith (λ words. number)) (λ i. 0) < 2 ^ 64
+blank-digest = lit< tt
 
 -- ---- two chips: SECRET0 locked on both with digest 1, and one word of its data (at 0x250) different
 
