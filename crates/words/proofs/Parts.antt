@@ -17,14 +17,18 @@ pub length-part : (c : List ℕ) (at n : ℕ) → length (partAt c at n) ≡ n
 unfolding partAt
 length-part c at n = length-listed _ at n
 
-pub part-words : {c : List ℕ} → Words c → (at n : ℕ) → Words (partAt c at n)
-unfolding partAt listed
-part-words w at n = record { small = small w at n }
+pub listed-words : {f : ℕ → ℕ} → ((i : ℕ) → f i < 65536) → (at n : ℕ) → Words (listed f at n)
+unfolding listed
+listed-words h at n = record { small = small h at n }
   where
-    small : {c : List ℕ} → Words c → (at n i : ℕ) → getD (listed (λ j. getD c j 0) at n) i 0 < 65536
-    small w at zero i = omega arith
-    small w at (suc n) zero = w .small at
-    small w at (suc n) (suc i) = small w (suc at) n i
+    small : {f : ℕ → ℕ} → ((i : ℕ) → f i < 65536) → (at n i : ℕ) → getD (listed f at n) i 0 < 65536
+    small h at zero i = omega arith
+    small h at (suc n) zero = h at
+    small h at (suc n) (suc i) = small h (suc at) n i
+
+pub part-words : {c : List ℕ} → Words c → (at n : ℕ) → Words (partAt c at n)
+unfolding partAt
+part-words w at n = listed-words (w .small) at n
 
 pub part-number-lt : {c : List ℕ} → Words c → (at n : ℕ) → numberOf (partAt c at n) < 65536 ^ n
 part-number-lt {c} w at n = rw length-part at (number-lt (partAt c at n) (part-words w at n))
