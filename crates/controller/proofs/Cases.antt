@@ -17,7 +17,3 @@ chip-cases keys h =
     cases primitives keys
     (digest-lt _ _ (listed (λ i. 0) 0 36) (number-lt (listed keys 24 4) (listed-words h 24 4)) (number-lt (listed keys 28 8) (listed-words h 28 8))
     (listed-words {f = λ i. 0} (λ i. lit< tt) 0 36))
-
--- with keys and digest constants of zero, say
-zero-keys : Hold primitives (λ i. 0) (table (blankDigest primitives (λ i. 0)))
-zero-keys = chip-cases (λ i. 0) (λ i. lit< tt)

@@ -1,5 +1,5 @@
 -- The table of cases holds: the checker computes each case from the definitions, the cipher and the digest being variables.
-use mathlib.Core.Path.{_≡_, refl, ap}
+use mathlib.Core.Path.{refl, ap}
 use mathlib.Core.List.{List, [], _∷_, _++_}
 use Prim.Native.Nat.{ℕ, _^_, _<_}
 use Rattle.words.proofs.Words.{number-block}

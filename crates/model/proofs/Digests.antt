@@ -1,8 +1,8 @@
 -- A digest is never written in part. The idea: the granule of an address in a digest is the whole digest, so a write or a digest command programs all of it
 -- or none; and no other command programs a word of it.
 use mathlib.Core.Path.{_≡_, refl, sym, ap, _∙_}
-use mathlib.Core.Bool.{Bool, true, false, _&&_}
-use mathlib.Core.List.{List, [], _∷_, _++_}
+use mathlib.Core.Bool.{true, _&&_}
+use mathlib.Core.List.{List, [], _∷_}
 use Prim.Native.Nat.{ℕ, _+_, _*_, _/_, _%_, _^_, _≤_, _<_}
 use native.Mathlib.Omega.{arith}
 use lib.Dec.{eqb}
@@ -16,7 +16,7 @@ use Rattle.words.proofs.Words.{length-words, number-words}
 use Rattle.words.proofs.Parts.{part-same}
 use Rattle.words.proofs.Programming.{program-elsewhere, program-takes}
 use Rattle.partitions.specs.declared.Partition.{Partition}
-use Rattle.partitions.specs.Map.{Map, rightsOf, numberAt, partition, partitionAt, limit, inDigest}
+use Rattle.partitions.specs.Map.{Map, numberAt, partition, partitionAt, inDigest}
 use Rattle.partitions.specs.Fitness.{fit}
 use Rattle.partitions.proofs.KindRights.{soft-plain, hardware-direct}
 use Rattle.partitions.proofs.Map.{inside, partition-at, partition-fit, end-within}
@@ -25,10 +25,9 @@ use Rattle.model.specs.declared.Answer.{Answer}
 use Rattle.model.specs.declared.Command.{Command}
 use Rattle.model.specs.declared.Command.the-variants.{Read, Write, FrontRead, Digest, ReadLock, Transition, PowerUp}
 use Rattle.model.specs.Lent.{Machine, Primitives}
-use Rattle.model.specs.Acts.{Performed}
 use Rattle.model.specs.Commands.{storedDigest, scrambled}
 use Rattle.model.specs.Step.{Step, unchanged, performed, act, powerUp, after, machineAfter, answerTo}
-use Rattle.model.specs.Terms.{Right, Digested, storedWords}
+use Rattle.model.specs.Terms.{Right, Digested}
 use Rattle.model.specs.Beyond.{Puts, writes, computes, Source, found, put}
 use Rattle.model.proofs.Acts.{perform-frame, Burnt, unburnt, burnt, perform-once}
 use Rattle.model.proofs.Frame.{Aim, Open, unlocked, lifeCycle, life-closed, act-within}

@@ -10,7 +10,7 @@ use lib.ListN.{getD}
 use borrow.Author.Tests.{leb-false, lt-leb, eq-eqb}
 use Rattle.basics.proofs.Choice.{by-cases, true-not-false, not-passed, and-both, and-false, if-true, if-false, if-both}
 use Rattle.words.specs.Words.{numberOf, wordsOf, partAt}
-use Rattle.words.specs.Programming.{programAnswer, programCells}
+use Rattle.words.specs.Programming.{programCells}
 use Rattle.words.proofs.Words.{length-words, number-block}
 use Rattle.words.proofs.Parts.{part-number-lt, part-same}
 use Rattle.words.proofs.Programming.{program-elsewhere, program-takes}
@@ -28,7 +28,7 @@ use Rattle.model.specs.declared.Command.the-variants.{Read, Write, Front
 use Rattle.model.specs.Answers.{codeOf, valueOf}
 use Rattle.model.specs.Session.{sensedLocked, readLocked}
 use Rattle.model.specs.Lent.{Machine, Primitives, keyOf}
-use Rattle.model.specs.Acts.{stay, Act, say, Performed, afterProgram, perform}
+use Rattle.model.specs.Acts.{stay, Act, say, afterProgram, perform}
 use Rattle.model.specs.Commands.{granule, storedDigest, scrambled, unscrambled, writeAct, readAct, commandAct, readyAct}
 use Rattle.model.specs.Step.{Step, unchanged, performed, act, powerUp, step, after, machineAfter, answerTo}
 use Rattle.model.specs.Terms.{Right, Cipher, Digested, spares, storedWords, usedValue, Lasts, Spared, Allowed, TakesEffect}

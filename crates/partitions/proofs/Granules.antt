@@ -1,6 +1,6 @@
 -- Laws of granules. The idea: a granule has 4 or 8 bytes, and starts, digests and ends stand at multiples of 8, so it lies on one side of each of them.
 use mathlib.Core.Path.{_≡_, refl, sym, ap, _∙_}
-use mathlib.Core.Bool.{true, false, _||_}
+use mathlib.Core.Bool.{true, _||_}
 use Prim.Native.Nat.{ℕ, _+_, _*_, _/_, _≤_, _<_}
 use native.Mathlib.Omega.{arith}
 use lib.Dec.{leb}
