@@ -35,7 +35,7 @@ module _ (prims : Primitives) (keys : ℕ → ℕ) where
   unfolding everything
   hardware-holds h =
       let d = blankDigest prims keys in
-      ((ap (λ (x : ℕ). (0x00, 0) ∷ (0x00, d) ∷ (0x00, 0) ∷ (0x00, x) ∷ (0x00, x) ∷ (0x00, x) ∷ (0x00, x) ∷ (0x05, 0) ∷ []) (number-block d h), tt), tt)
+      ((ap (λ (x : ℕ). (0x00, 0) ∷ (0x00, d) ∷ (0x00, 0) ∷ (0x00, x) ∷ (0x00, x) ∷ []) (number-block d h), tt), tt)
 
   pub cases : blankDigest prims keys < 2 ^ 64 → Hold prims keys (table (blankDigest prims keys))
   unfolding table

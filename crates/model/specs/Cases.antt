@@ -116,8 +116,8 @@ module _ (s : ℕ) where
 -- Request Two, a hardware digest: reads of 0x248 and 0x24C answer its 64 bits. The digest of a blank HW_CFG is given.
 abbrev pub hardware : ℕ → Case
 hardware digest =
-    case (PowerUp ∷ Digest 0x200 ∷ Read 0x247 ∷ Read 0x248 ∷ Read 0x24B ∷ Read 0x24C ∷ Read 0x24F ∷ Write 0x24C 1 ∷ [])
-    ((0x00, 0) ∷ (0x00, digest) ∷ (0x00, 0) ∷ (0x00, digest) ∷ (0x00, digest) ∷ (0x00, digest) ∷ (0x00, digest) ∷ (0x05, 0) ∷ [])
+    case (PowerUp ∷ Digest 0x200 ∷ Read 0x247 ∷ Read 0x248 ∷ Read 0x24C ∷ [])
+    ((0x00, 0) ∷ (0x00, digest) ∷ (0x00, 0) ∷ (0x00, digest) ∷ (0x00, digest) ∷ [])
 
 unfoldable pub table : ℕ → List Case
 table digest = paper ++ bothSides 0x000 ++ bothSides 0x100 ++ hardware digest ∷ []
