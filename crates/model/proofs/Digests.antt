@@ -29,8 +29,8 @@ use Rattle.model.specs.Commands.{storedDigest, scrambled}
 use Rattle.model.specs.Step.{Step, unchanged, performed, act, powerUp, after, machineAfter, answerTo}
 use Rattle.model.specs.Terms.{Right, Digested}
 use Rattle.model.specs.Beyond.{Puts, writes, computes, Source, found, put}
-use Rattle.model.proofs.Acts.{perform-frame, Burnt, unburnt, burnt, perform-once}
-use Rattle.model.proofs.Frame.{Aim, Open, unlocked, lifeCycle, life-closed, act-within}
+use Rattle.model.proofs.Acts.{Burnt, unburnt, burnt, perform-once}
+use Rattle.model.proofs.Frame.{Aim, aimless-word}
 use Rattle.model.proofs.Steps.{outcome, step-all, cells-length, step-right}
 use Rattle.model.proofs.Targets.{Written, Computed, write-once, digest-once}
 
@@ -134,11 +134,7 @@ module _ (prims : Primitives) (map : Map) (F : fit map ≡ true) (n : ℕ) (D : 
 
   -- a command with no aim programs no word of it
   aimless : (x : Command) (m : Machine) → ((j : ℕ) → Aim map x j → ⊥) → Changes x m
-  aimless x m h = kept (digest-same _ _ (λ j w. perform-frame (act-within prims map F m x) (m .lent .copy) (m .lent .cells) j (shut j w)))
-    where
-      shut : (j : ℕ) → Word j → Open map x (m .session) j → ⊥
-      shut j w (unlocked r d z aim) = h j aim
-      shut j w (lifeCycle r t e) = true-not-false (D .direct) (rw (partition-at map (2 * j) (word-at j w)) at (life-closed prims map F j e))
+  aimless x m h = kept (digest-same _ _ (λ j w. aimless-word prims map F m x j (rw (partition-at map (2 * j) (word-at j w)) (D .direct)) (h j)))
 
   command-changes : (x : Command) (m : Machine) → Right map m → Changes x m
   command-changes (Write a value) m r = write-changes m r a value

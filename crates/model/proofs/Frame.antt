@@ -7,6 +7,7 @@ use Prim.Native.Nat.{ℕ, suc, _+_, _*_, _^_, _≤_, _<_}
 use native.Mathlib.Omega.{arith}
 use lib.ListN.{getD}
 use borrow.Author.Tests.{leb-false, eqb-true, not-false}
+use Rattle.basics.proofs.Choice.{true-not-false}
 use Rattle.words.proofs.Words.{length-words}
 use Rattle.words.proofs.Parts.{part-same}
 use Rattle.partitions.specs.declared.Kind.the-variants as kind
@@ -27,9 +28,10 @@ use Rattle.model.specs.declared.Command.{Command}
 use Rattle.model.specs.declared.Command.the-variants.{Read, Write, FrontRead, Digest, ReadLock, Transition, PowerUp}
 use Rattle.model.specs.Session.{isReady, sensedAt, sensedLocked}
 use Rattle.model.specs.Lent.{Machine, Primitives}
+use Rattle.model.specs.Acts.{perform}
 use Rattle.model.specs.Commands.{counterAt, stateAt, writeAct, readAct, frontReadAct, digestAct, readLockAct, moveAct, lockedTokenAct, tokenAct, entryAct, transitionAct, commandAct, readyAct}
 use Rattle.model.specs.PowerUp.{lifeCycleIn}
-use Rattle.model.proofs.Acts.{Within, says, programs, compares, within-if, within-map}
+use Rattle.model.proofs.Acts.{Within, says, programs, compares, within-if, within-map, perform-frame}
 
 unfoldable pub isTransition : Command → Bool
 isTransition (Read a) = false
@@ -153,3 +155,12 @@ module _ (prims : Primitives) (map : Map) (F : fit map ≡ true) where
     pub act-within : (x : Command) → Within (Open map x (m .session)) (readyAct prims map m x)
     unfolding readyAct
     act-within x = within-if (λ t. says) λ r. command-within x (not-false _ r)
+
+    -- a word that direct access reaches stays where the command has no aim at it
+    pub aimless-word : (x : Command) (j : ℕ) → rightsOf (partitionAt map (2 * j) .kind) .direct ≡ true → (Aim map x j → ⊥)
+        → getD (perform (readyAct prims map m x) (m .lent .copy) (m .lent .cells) .cells) j 0 ≡ getD (m .lent .cells) j 0
+    aimless-word x j d n = perform-frame (act-within x) (m .lent .copy) (m .lent .cells) j shut
+      where
+        shut : Open map x (m .session) j → ⊥
+        shut (unlocked r e z aim) = n aim
+        shut (lifeCycle r t e) = true-not-false d (life-closed j e)

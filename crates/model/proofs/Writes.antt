@@ -33,9 +33,9 @@ use Rattle.model.specs.Commands.{granule, storedDigest, scrambled, unscr
 use Rattle.model.specs.Step.{Step, unchanged, performed, act, powerUp, step, after, machineAfter, answerTo}
 use Rattle.model.specs.Terms.{Right, Cipher, Digested, spares, storedWords, usedValue, Lasts, Spared, Allowed, TakesEffect}
 use Rattle.model.specs.Demand3.{Ready}
-use Rattle.model.proofs.Acts.{perform-frame, Burnt, unburnt, burnt, perform-once, not-done}
+use Rattle.model.proofs.Acts.{Burnt, unburnt, burnt, perform-once, not-done}
 use Rattle.model.proofs.Targets.{Written, write-once}
-use Rattle.model.proofs.Frame.{Sealed, Aim, Open, unlocked, lifeCycle, life-closed, act-within}
+use Rattle.model.proofs.Frame.{Sealed, Aim, aimless-word}
 use Rattle.model.proofs.Steps.{outcome, step-all, cells-length, step-right, after-right, step-constants, after-constants}
 use Rattle.model.proofs.Ready.{step-act, Fresh, first-fresh, step-fresh, after-fresh}
 
@@ -131,17 +131,11 @@ module _ (prims : Primitives) (C : Cipher prims) (map : Map) (F : fit map ≡ tr
         let e = word-number map F below lo hi in
         true-not-false (and-both _ _ (rw e at (k .hard)) (sym (word-inside map F below lo hi .side) ∙ (rw e at (k .high)))) open?
 
-    -- and no life cycle word, so that only its aim lets a command change it
+    -- and only its aim lets a command change it
     aimless : (x : Command) (m : Machine) (j : ℕ) → first ≤ j → j < first + count → (Aim map x j → ⊥)
         → getD (outcome prims map x m .cells) j 0 ≡ getD (m .lent .cells) j 0
-    aimless x m j lo hi n = perform-frame (act-within prims map F m x) (m .lent .copy) (m .lent .cells) j shut
-      where
-        open-word : rightsOf (partitionAt map (2 * j) .kind) .direct ≡ true
-        open-word = unfold partitionAt in (rw (word-number map F below lo hi) direct)
-
-        shut : Open map x (m .session) j → ⊥
-        shut (unlocked r d z aim) = n aim
-        shut (lifeCycle r t e) = true-not-false open-word (life-closed prims map F j e)
+    unfolding partitionAt
+    aimless x m j lo hi n = aimless-word prims map F m x j (rw (word-number map F below lo hi) direct) n
 
     word-stays : (x : Command) (m : Machine) → spares map a x (outcome prims map x m .answer) → (j : ℕ) → first ≤ j → j < first + count
         → getD (outcome prims map x m .cells) j 0 ≡ getD (m .lent .cells) j 0

@@ -1,4 +1,4 @@
--- Map 1, row by row: kind, start, digest address, end, granule. LIFE_CYCLE has no digest: its digest address is its end.
+-- Map 1, row by row: kind, start, digest address, end, granule of the data. LIFE_CYCLE has no digest: its digest address is its end.
 use Prim.Native.Nat.{ℕ}
 use mathlib.Core.List.{[], _∷_}
 use Rattle.partitions.specs.declared.Kind.{Kind}
