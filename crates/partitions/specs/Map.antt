@@ -56,7 +56,8 @@ limit (p ∷ q ∷ ps) = limit (q ∷ ps)
 unfoldable pub inDigest : Partition → ℕ → Bool
 inDigest p a = leb (p .digest) a
 
--- the granule of an address, in bytes: "every digest location .. now has 8 bytes, for read and write" (document 02); of its data, that of the partition
+-- the granule of an address, in bytes: "every digest location of partitions 0 to 5 now has 8 bytes, for read and write" (document 02), and data have the
+-- granule of their partition
 unfoldable pub granuleAt : Partition → ℕ → ℕ
 granuleAt p a = if inDigest p a then 8 else p .granule
 

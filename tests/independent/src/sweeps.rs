@@ -192,7 +192,7 @@ mod tests {
     use super::*;
 
     #[test]
-    fn only_a_software_digest_locks_by_a_write() {
+    fn writes_are_refused_in_digests_and_the_life_cycle() {
         let constants = chips::constants(&mut Random::new(43));
         let runs = digest_edges(&constants);
         assert_eq!(runs.len(), 6 * 24 * 3);
@@ -200,7 +200,8 @@ mod tests {
             run.printed()
                 .ends_with("\n02 05 0000000000000000\nend 22\n")
         };
-        // Two software digests of 8 addresses; four of the hardware's, and 8 addresses of LIFE_CYCLE.
+        // Two software digests that the first write has locked, four hardware
+        // digests, and the first 8 addresses of LIFE_CYCLE.
         assert_eq!(runs.iter().filter(locked).count(), (2 * 8 + 4 * 8 + 8) * 3);
     }
 
