@@ -4,6 +4,7 @@
 use libc::STDIN_FILENO;
 use libc::STDOUT_FILENO;
 use words::Programmed;
+use words::Rule;
 ghost use mathlib.Core.Path.{_≡_};
 ghost use Prim.Native.Nat.{_≤_, _<_};
 ghost use lib.ListN.{length};
@@ -94,22 +95,30 @@ fn cells_of(words: &[u16; 96], n: usize) -> [u16; 48]
     cells
 }
 
+fn rule_of(number: u64) -> Rule {
+    if number == 0 {
+        Rule::KeepBits
+    } else {
+        Rule::BlankOnly
+    }
+}
+
 // Programs the first n cells: 0 where it is done, else one more than the index of the refusing cell.
-fn program(cells: &mut [u16], n: usize, at: usize, value: &[u16]) -> u64
+fn program(rule: Rule, cells: &mut [u16], n: usize, at: usize, value: &[u16]) -> u64
     requires { ⌜ n ≤ length (now cells) ⌝ }
 {
-    match words::program(&mut cells[..n], at, value) {
+    match words::program(rule, &mut cells[..n], at, value) {
         Programmed::Done => 0,
         Programmed::Refused(i) => 1 + i as u64,
     }
 }
 
-fn programmed(case: &[u8; 256], at: u64, n: u64, m: u64) -> Answer {
+fn programmed(case: &[u8; 256], at: u64, rule: u64, n: u64, m: u64) -> Answer {
     let words = words_of(case);
     let count = at_most(n, 48);
     let mut cells = cells_of(&words, count);
     let value = first(&words[48..], m);
-    let result = program(&mut cells, count, at as usize, value);
+    let result = program(rule_of(rule), &mut cells, count, at as usize, value);
     Answer {
         result,
         words: cells,
@@ -147,7 +156,7 @@ fn answer_to(case: &[u8; 256]) -> Answer {
         1 => number(present::encrypt(a, b, c)),
         2 => number(present::decrypt(a, b, c)),
         3 => number(digest_of(case, a, b, c, n)),
-        4 => programmed(case, a, n, m),
+        4 => programmed(case, a, b, n, m),
         5 => split(a),
         6 => number(joined(case, n)),
         7 => number(chain(a, b, c, n)),

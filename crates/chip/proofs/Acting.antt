@@ -6,11 +6,12 @@ use mathlib.Core.List.{List}
 use Prim.Native.Nat.{ℕ}
 use lib.ListN.{length}
 use Rattle.basics.proofs.Choice.{by-cases, if-true, if-false}
+use Rattle.words.specs.declared.Rule.{Rule}
 use Rattle.words.specs.declared.Programmed.the-variants as programmed
 use Rattle.words.specs.Programming.{programAnswer, programCells}
 use Rattle.partitions.specs.Map1.{map1}
 use Rattle.model.specs.declared.Answer.{Answer}
-use Rattle.model.specs.declared.Answer.the-variants.{Cleared, NotReady}
+use Rattle.model.specs.declared.Answer.the-variants.{NotBlank, NotReady}
 use Rattle.model.specs.declared.Command.{Command}
 use Rattle.model.specs.declared.Command.the-variants.{Read, Write, FrontRead, Digest, ReadLock, Transition, PowerUp}
 use Rattle.model.specs.Session.{isReady}
@@ -66,13 +67,13 @@ module _ (m : Machine) where
   unfolding comesTo performed perform
   said a t = refl
 
-  module _ (at : ℕ) (ws : List ℕ) (t : Turn) (next : Act) where
-    pub program-done : programAnswer (m .lent .cells) at ws ≡ programmed.Done
-        → comesTo (program at ws t next) m ≡ comesTo next (machineOf (programCells (m .lent .cells) at ws) (m .lent .copy) (m .lent .constants) (m .session))
+  module _ (rule : Rule) (at : ℕ) (ws : List ℕ) (t : Turn) (next : Act) where
+    pub program-done : programAnswer rule (m .lent .cells) at ws ≡ programmed.Done
+        → comesTo (program rule at ws t next) m ≡ comesTo next (machineOf (programCells rule (m .lent .cells) at ws) (m .lent .copy) (m .lent .constants) (m .session))
     unfolding comesTo performed perform afterProgram
     program-done e = rw e
 
-    pub program-refused : (i : ℕ) → programAnswer (m .lent .cells) at ws ≡ programmed.Refused i → comesTo (program at ws t next) m ≡ comesTo (say (Cleared i) t) m
+    pub program-refused : (i : ℕ) → programAnswer rule (m .lent .cells) at ws ≡ programmed.Refused i → comesTo (program rule at ws t next) m ≡ comesTo (say (NotBlank i) t) m
     unfolding comesTo performed perform afterProgram
     program-refused i e = rw e
 

@@ -8,6 +8,7 @@ use native.Mathlib.Omega.{arith}
 use lib.ListN.{length}
 use Rattle.basics.specs.Choice.{if_then_else_}
 use Rattle.basics.proofs.Choice.{if-true, if-false}
+use Rattle.words.specs.declared.Rule.{Rule}
 use Rattle.words.specs.Programming.{programAnswer, programCells}
 use Rattle.words.proofs.Programming.{by-answer, stored-refused}
 use Rattle.partitions.specs.declared.Partition.{Partition}
@@ -39,15 +40,15 @@ unfolding turned
 said-only m b = said m b stay
 
 -- the words are programmed and a value is answered, or a cell refuses and nothing changes
-programs : (m : Machine) (at : ℕ) (ws : List ℕ) (value : ℕ)
-    → comesTo (program at ws stay (say (Done value) stay)) m
-    ≡ resultOf (programCells (m .lent .cells) at ws) (m .lent .copy) (m .lent .constants)
-    (record { session = m .session; answer = programmedAnswer (programAnswer (m .lent .cells) at ws) value })
-programs m at ws value =
+programs : (m : Machine) (rule : Rule) (at : ℕ) (ws : List ℕ) (value : ℕ)
+    → comesTo (program rule at ws stay (say (Done value) stay)) m
+    ≡ resultOf (programCells rule (m .lent .cells) at ws) (m .lent .copy) (m .lent .constants)
+    (record { session = m .session; answer = programmedAnswer (programAnswer rule (m .lent .cells) at ws) value })
+programs m rule at ws value =
     let l = m .lent in
-    by-answer (programAnswer (l .cells) at ws)
-    (λ e. program-done m at ws stay _ e ∙ said-only (machineOf (programCells (l .cells) at ws) (l .copy) (l .constants) (m .session)) (Done value) ∙ rw e)
-    (λ i e. program-refused m at ws stay _ i e ∙ said-only m _ ∙ rw (e, stored-refused (l .cells) ws at i e))
+    by-answer (programAnswer rule (l .cells) at ws)
+    (λ e. program-done m rule at ws stay _ e ∙ said-only (machineOf (programCells rule (l .cells) at ws) (l .copy) (l .constants) (m .session)) (Done value) ∙ rw e)
+    (λ i e. program-refused m rule at ws stay _ i e ∙ said-only m _ ∙ rw (e, stored-refused rule (l .cells) ws at i e))
 
 -- ---- a command on an address
 
@@ -85,7 +86,7 @@ module _ {x : Command} {m : Machine} {a : ℕ} {may : ℕ → Partition → Bool
     answered e f g = sym (arrived _ (if-true _ _ e ∙ f) ∙ said-only m _ ∙ ap (λ (v : ℕ). result (Done v)) (sym g))
 
     -- it may act, and programs words and answers a value; or a cell refuses
-    pub burnt : may n p ≡ true → {at : ℕ} {ws : List ℕ} {v : ℕ} → go p ≡ program at ws stay (say (Done v) stay) → {cells : List ℕ} {b : Answer}
-        → cells ≡ programCells (m .lent .cells) at ws → b ≡ programmedAnswer (programAnswer (m .lent .cells) at ws) v
+    pub burnt : may n p ≡ true → {rule : Rule} {at : ℕ} {ws : List ℕ} {v : ℕ} → go p ≡ program rule at ws stay (say (Done v) stay) → {cells : List ℕ} {b : Answer}
+        → cells ≡ programCells rule (m .lent .cells) at ws → b ≡ programmedAnswer (programAnswer rule (m .lent .cells) at ws) v
         → resultOf cells (m .lent .copy) (m .lent .constants) (record { session = m .session; answer = b }) ≡ resultFor x m
-    burnt e {at} {ws} {v} f g h = rw (g, h) (sym (arrived _ (if-true _ _ e ∙ f) ∙ programs m at ws v))
+    burnt e {rule} {at} {ws} {v} f g h = rw (g, h) (sym (arrived _ (if-true _ _ e ∙ f) ∙ programs m rule at ws v))

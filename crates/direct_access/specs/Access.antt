@@ -12,7 +12,7 @@ use Rattle.partitions.specs.Map1.{map1}
 use Rattle.model.specs.declared.Phase.{Phase}
 use Rattle.model.specs.declared.Session.{Session}
 use Rattle.model.specs.declared.Answer.{Answer}
-use Rattle.model.specs.declared.Answer.the-variants.{Done, Cleared, Denied}
+use Rattle.model.specs.declared.Answer.the-variants.{Done, NotBlank, Denied}
 use Rattle.model.specs.Session.{sensedLocked, readLocked}
 use Rattle.model.specs.Commands.{granule, unscrambled}
 use Rattle.chip.specs.declared.Judged.{Judged}
@@ -52,4 +52,4 @@ readValue cells constants p a =
 -- a value where the words were programmed, 4 where a cell refused
 abbrev pub programmedAnswer : Programmed → ℕ → Answer
 programmedAnswer programmed.Done value = Done value
-programmedAnswer (programmed.Refused cell) value = Cleared cell
+programmedAnswer (programmed.Refused cell) value = NotBlank cell

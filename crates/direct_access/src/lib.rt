@@ -6,6 +6,7 @@ use model::Session;
 use partitions::LifeCyclePartition;
 use partitions::Partition;
 use words::Programmed;
+use words::Rule;
 ghost use mathlib.Core.Path.{_≡_};
 ghost use Prim.Native.Nat.{_+_, _≤_};
 ghost use lib.ListN.{length};
@@ -107,7 +108,7 @@ fn answer_of(programmed: Programmed, value: u64) -> Answer
 {
     match programmed {
         Programmed::Done => Answer::Done(value),
-        Programmed::Refused(cell) => Answer::Cleared(cell),
+        Programmed::Refused(cell) => Answer::NotBlank(cell),
     }
 }
 
@@ -164,7 +165,7 @@ pub fn write(
             let place = partition.granule_at(byte);
             let n = place.words;
             let words = words::split(chip::scrambled(constants, partition, value));
-            let programmed = words::program(cells, place.word, &words[..n]);
+            let programmed = words::program(Rule::BlankOnly, cells, place.word, &words[..n]);
             Outcome {
                 session,
                 answer: answer_of(programmed, 0),
@@ -226,7 +227,7 @@ pub fn digest(
             let end = partition.digest / 2;
             let value = chip::digest_of(constants, &cells[at..end]);
             let words = words::split(value);
-            let programmed = words::program(cells, end, &words[..]);
+            let programmed = words::program(Rule::BlankOnly, cells, end, &words[..]);
             Outcome {
                 session,
                 answer: answer_of(programmed, value),

@@ -10,7 +10,7 @@ use Rattle.basics.specs.Range.{allBelow}
 use Rattle.basics.proofs.Choice.{by-cases, true-not-false, to-T, and-left, and-right, and-three}
 use Rattle.basics.proofs.Range.{all-at}
 use Rattle.words.specs.Programming.{losesBit}
-use Rattle.words.proofs.Programming.{or-keeps, keeps-or}
+use Rattle.words.proofs.Rules.{or-keeps, keeps-or}
 use Rattle.life_cycle.specs.Constants.{constA, constB, constC, constD, pairValid, validConstants}
 
 -- a lower constant and its upper one

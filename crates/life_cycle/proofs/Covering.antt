@@ -13,8 +13,10 @@ use Rattle.basics.specs.Choice.{if_then_else_}
 use Rattle.basics.proofs.Choice.{true-not-false, if-false}
 use Rattle.words.specs.declared.Programmed.the-variants.{Done}
 use Rattle.words.specs.Words.{partAt}
+use Rattle.words.specs.declared.Rule.the-variants.{KeepBits}
 use Rattle.words.specs.Programming.{losesBit, programAnswer}
-use Rattle.words.proofs.Programming.{loses-none, or-keeps, covered-done}
+use Rattle.words.proofs.Rules.{loses-none, or-keeps}
+use Rattle.words.proofs.Programming.{covered-done}
 use Rattle.life_cycle.specs.declared.Token.{Token}
 use Rattle.life_cycle.specs.declared.Entry.the-variants.{Allowed}
 use Rattle.life_cycle.specs.Constants.{constA, constB, constC, constD, validConstants}
@@ -39,7 +41,7 @@ coded-keeps marks low up m n i p z h = rw (if-false 0 (if marks n i then up i el
 
 -- words that cover those of a part are programmed there
 covering : (size : ℕ) (c ws vs : List ℕ) (at : ℕ) → length vs ≡ size → partAt c at size ≡ ws
-    → ((i : ℕ) → i < size → losesBit (getD ws i 0) (getD vs i 0) ≡ false) → programAnswer c at vs ≡ Done
+    → ((i : ℕ) → i < size → losesBit (getD ws i 0) (getD vs i 0) ≡ false) → programAnswer KeepBits c at vs ≡ Done
 covering size c ws vs at l e h = covered-done vs c at (λ i m. rw (l, e) (h i (rw l at m)))
 
 module _ (constants : List ℕ) (valid : validConstants constants ≡ true) where
@@ -58,12 +60,12 @@ module _ (constants : List ℕ) (valid : validConstants constants ≡ true) wher
 
   -- ---- as programming
 
-  pub stroke-done : (c : List ℕ) (at n : ℕ) → partAt c at 24 ≡ counterWords constants n → programAnswer c at (counterWords constants (suc n)) ≡ Done
+  pub stroke-done : (c : List ℕ) (at n : ℕ) → partAt c at 24 ≡ counterWords constants n → programAnswer KeepBits c at (counterWords constants (suc n)) ≡ Done
   stroke-done c at n e =
       covering 24 c _ _ at (counter-length constants (suc n)) e
       (λ i h. rw (counter-at constants n i h, counter-at constants (suc n) i h) (stroke-keeps n i h))
 
   pub transition-done : (c : List ℕ) (at s t : ℕ) {tok : Token} → partAt c at 20 ≡ stateWords constants s → transition s t ≡ Allowed tok
-      → programAnswer c at (stateWords constants t) ≡ Done
+      → programAnswer KeepBits c at (stateWords constants t) ≡ Done
   transition-done c at s t e a =
       covering 20 c _ _ at (state-length constants t) e (λ i h. rw (state-at constants s i h, state-at constants t i h) (transition-keeps s t i a h))

@@ -8,12 +8,13 @@ use lib.ListN.{length, getD}
 use borrow.Author.Tests.{eqb-false}
 use Rattle.basics.specs.Choice.{if_then_else_}
 use Rattle.basics.proofs.Choice.{if-both}
+use Rattle.words.specs.declared.Rule.{Rule}
 use Rattle.words.specs.declared.Programmed.{Programmed}
 use Rattle.words.specs.declared.Programmed.the-variants as programmed
 use Rattle.words.specs.Programming.{programAnswer, programCells, Kept}
 use Rattle.words.proofs.Programming.{kept-refl, kept-trans, program-kept, program-length, program-elsewhere}
 use Rattle.model.specs.declared.Answer.{Answer}
-use Rattle.model.specs.declared.Answer.the-variants.{Done, Cleared}
+use Rattle.model.specs.declared.Answer.the-variants.{Done, NotBlank}
 use Rattle.model.specs.Answers.{codeOf}
 use Rattle.model.specs.Acts.{Turn, stay, Act, say, program, compare, refuse, Performed, afterProgram, noting, perform}
 
@@ -29,18 +30,18 @@ after-both Q (programmed.Refused cell) next refused f g = g cell refl
 pub perform-kept : (x : Act) (copy cells : List ℕ) → Kept cells (perform x copy cells .cells)
 unfolding perform noting
 perform-kept (say answer turn) copy cells = kept-refl
-perform-kept (program at words turn next) copy cells =
-    after-both (λ (r : Performed). Kept cells (r .cells)) (programAnswer cells at words) _ _
-    (λ e. kept-trans (program-kept cells words at) (perform-kept next copy (programCells cells at words))) (λ cell e. kept-refl)
+perform-kept (program rule at words turn next) copy cells =
+    after-both (λ (r : Performed). Kept cells (r .cells)) (programAnswer rule cells at words) _ _
+    (λ e. kept-trans (program-kept rule cells words at) (perform-kept next copy (programCells rule cells at words))) (λ cell e. kept-refl)
 perform-kept (compare test same other) copy cells =
     if-both (λ (r : Performed). Kept cells (r .cells)) _ _ _ (λ e. perform-kept same copy cells) (λ e. perform-kept other copy cells)
 
 pub perform-length : (x : Act) (copy cells : List ℕ) → length (perform x copy cells .cells) ≡ length cells
 unfolding perform noting
 perform-length (say answer turn) copy cells = refl
-perform-length (program at words turn next) copy cells =
-    after-both (λ (r : Performed). length (r .cells) ≡ length cells) (programAnswer cells at words) _ _
-    (λ e. perform-length next copy (programCells cells at words) ∙ program-length cells words at) (λ cell e. refl)
+perform-length (program rule at words turn next) copy cells =
+    after-both (λ (r : Performed). length (r .cells) ≡ length cells) (programAnswer rule cells at words) _ _
+    (λ e. perform-length next copy (programCells rule cells at words) ∙ program-length rule cells words at) (λ cell e. refl)
 perform-length (compare test same other) copy cells =
     if-both (λ (r : Performed). length (r .cells) ≡ length cells) _ _ _ (λ e. perform-length same copy cells) (λ e. perform-length other copy cells)
 
@@ -49,8 +50,8 @@ perform-length (compare test same other) copy cells =
 -- every word that the act may program has P
 pub data Within (P : ℕ → Type 0) : Act → Type 0 where
   says : {answer : Answer} {turn : Turn} → Within P (say answer turn)
-  programs : {at : ℕ} {words : List ℕ} {turn : Turn} {next : Act}
-      → ((j : ℕ) → at ≤ j → j < at + length words → P j) → Within P next → Within P (program at words turn next)
+  programs : {rule : Rule} {at : ℕ} {words : List ℕ} {turn : Turn} {next : Act}
+      → ((j : ℕ) → at ≤ j → j < at + length words → P j) → Within P next → Within P (program rule at words turn next)
   compares : {test : List ℕ → Bool} {same other : Act} → Within P same → Within P other → Within P (compare test same other)
 
 pub within-if : {P : ℕ → Type 0} {b : Bool} {x y : Act} → (b ≡ true → Within P x) → (b ≡ false → Within P y) → Within P (if b then x else y)
@@ -65,39 +66,44 @@ pub perform-frame : {P : ℕ → Type 0} {x : Act} → Within P x → (copy cell
     → getD (perform x copy cells .cells) j 0 ≡ getD cells j 0
 unfolding perform noting
 perform-frame says copy cells j h = refl
-perform-frame (programs {at = at} {words = words} inside next) copy cells j h =
-    after-both (λ (r : Performed). getD (r .cells) j 0 ≡ getD cells j 0) (programAnswer cells at words) _ _
-    (λ e. perform-frame next copy (programCells cells at words) j h ∙ program-elsewhere cells words at j (λ l u. h (inside j l u))) (λ cell e. refl)
+perform-frame (programs {rule = rule} {at = at} {words = words} inside next) copy cells j h =
+    after-both (λ (r : Performed). getD (r .cells) j 0 ≡ getD cells j 0) (programAnswer rule cells at words) _ _
+    (λ e. perform-frame next copy (programCells rule cells at words) j h ∙ program-elsewhere rule cells words at j (λ l u. h (inside j l u))) (λ cell e. refl)
 perform-frame (compares {test = test} same other) copy cells j h =
     if-both (λ (r : Performed). getD (r .cells) j 0 ≡ getD cells j 0) _ _ _ (λ e. perform-frame same copy cells j h) (λ e. perform-frame other copy cells j h)
 
 -- ---- acts that program once
 
--- the act refuses, or it programs words that have P from a place on and answers 0 with a value
-pub data Once (P : ℕ → List ℕ → ℕ → Type 0) : Act → Type 0 where
-  refuses : {answer : Answer} → Once P (refuse answer)
-  burns : {at : ℕ} {words : List ℕ} {value : ℕ} → P at words value → Once P (program at words stay (say (Done value) stay))
+-- the act refuses with a code other than 0, or it programs words by a rule from a place on and answers 0 with a value, all of which have P
+pub data Once (P : Rule → ℕ → List ℕ → ℕ → Type 0) : Act → Type 0 where
+  refuses : {answer : Answer} → eqb (codeOf answer) 0x00 ≡ false → Once P (refuse answer)
+  burns : {rule : Rule} {at : ℕ} {words : List ℕ} {value : ℕ} → P rule at words value → Once P (program rule at words stay (say (Done value) stay))
 
-pub once-if : {P : ℕ → List ℕ → ℕ → Type 0} {b : Bool} {x y : Act} → (b ≡ true → Once P x) → (b ≡ false → Once P y) → Once P (if b then x else y)
+pub once-if : {P : Rule → ℕ → List ℕ → ℕ → Type 0} {b : Bool} {x y : Act} → (b ≡ true → Once P x) → (b ≡ false → Once P y) → Once P (if b then x else y)
 once-if {P} {b} {x} {y} f g = if-both (Once P) b x y f g
 
--- performed, it leaves every cell, or the words are programmed whole
-pub data Burnt (P : ℕ → List ℕ → ℕ → Type 0) (cells : List ℕ) (r : Performed) : Type 0 where
-  unburnt : r .cells ≡ cells → Burnt P cells r
-  burnt : {at : ℕ} {words : List ℕ} {value : ℕ} → P at words value → programAnswer cells at words ≡ programmed.Done → r .cells ≡ programCells cells at words
+pub once-map : {P Q : Rule → ℕ → List ℕ → ℕ → Type 0} {x : Act}
+    → ((rule : Rule) (at : ℕ) (words : List ℕ) (value : ℕ) → P rule at words value → Q rule at words value) → Once P x → Once Q x
+once-map f (refuses e) = refuses e
+once-map f (burns {rule = rule} {at = at} {words = words} {value = value} h) = burns (f rule at words value h)
+
+-- performed, it leaves every cell and does not answer 0, or the words are programmed whole
+pub data Burnt (P : Rule → ℕ → List ℕ → ℕ → Type 0) (cells : List ℕ) (r : Performed) : Type 0 where
+  unburnt : r .cells ≡ cells → eqb (codeOf (r .answer)) 0x00 ≡ false → Burnt P cells r
+  burnt : {rule : Rule} {at : ℕ} {words : List ℕ} {value : ℕ} → P rule at words value → programAnswer rule cells at words ≡ programmed.Done → r .cells ≡ programCells rule cells at words
       → r .answer ≡ Done value → Burnt P cells r
 
-pub perform-once : {P : ℕ → List ℕ → ℕ → Type 0} {x : Act} → Once P x → (copy cells : List ℕ) → Burnt P cells (perform x copy cells)
+pub perform-once : {P : Rule → ℕ → List ℕ → ℕ → Type 0} {x : Act} → Once P x → (copy cells : List ℕ) → Burnt P cells (perform x copy cells)
 unfolding perform
-perform-once refuses copy cells = unburnt refl
-perform-once {P} (burns {at = at} {words = words} {value = value} h) copy cells =
-    after-both (Burnt P cells) (programAnswer cells at words) _ _ (λ e. burnt {value = value} h e refl refl) (λ cell e. unburnt refl)
+perform-once (refuses e) copy cells = unburnt refl e
+perform-once {P} (burns {rule = rule} {at = at} {words = words} {value = value} h) copy cells =
+    after-both (Burnt P cells) (programAnswer rule cells at words) _ _ (λ e. burnt {value = value} h e refl refl) (λ cell e. unburnt refl refl)
 
 -- ---- the answers that an act may give, with the turns that go with them
 
 pub data Gives (T : Answer → Turn → Type 0) : Act → Type 0 where
   says : {answer : Answer} {turn : Turn} → T answer turn → Gives T (say answer turn)
-  programs : {at : ℕ} {words : List ℕ} {turn : Turn} {next : Act} → ((cell : ℕ) → T (Cleared cell) turn) → Gives T next → Gives T (program at words turn next)
+  programs : {rule : Rule} {at : ℕ} {words : List ℕ} {turn : Turn} {next : Act} → ((cell : ℕ) → T (NotBlank cell) turn) → Gives T next → Gives T (program rule at words turn next)
   compares : {test : List ℕ → Bool} {same other : Act} → Gives T same → Gives T other → Gives T (compare test same other)
 
 pub gives-if : {T : Answer → Turn → Type 0} {b : Bool} {x y : Act} → (b ≡ true → Gives T x) → (b ≡ false → Gives T y) → Gives T (if b then x else y)
@@ -109,9 +115,9 @@ gives-either b f g = gives-if (λ e. f) (λ e. g)
 pub perform-gives : {T : Answer → Turn → Type 0} {x : Act} → Gives T x → (copy cells : List ℕ) → T (perform x copy cells .answer) (perform x copy cells .turn)
 unfolding perform noting
 perform-gives (Gives.says h) copy cells = h
-perform-gives {T} (Gives.programs {at = at} {words = words} refused next) copy cells =
-    after-both (λ (r : Performed). T (r .answer) (r .turn)) (programAnswer cells at words) _ _
-    (λ e. perform-gives next copy (programCells cells at words)) (λ cell e. refused cell)
+perform-gives {T} (Gives.programs {rule = rule} {at = at} {words = words} refused next) copy cells =
+    after-both (λ (r : Performed). T (r .answer) (r .turn)) (programAnswer rule cells at words) _ _
+    (λ e. perform-gives next copy (programCells rule cells at words)) (λ cell e. refused cell)
 perform-gives {T} (Gives.compares {test = test} same other) copy cells =
     if-both (λ (r : Performed). T (r .answer) (r .turn)) _ _ _ (λ e. perform-gives same copy cells) (λ e. perform-gives other copy cells)
 

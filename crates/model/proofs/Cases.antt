@@ -4,7 +4,7 @@ use mathlib.Core.List.{List, [], _∷_, _++_}
 use Prim.Native.Nat.{ℕ, _^_, _<_}
 use Rattle.words.proofs.Words.{number-block}
 use Rattle.model.specs.Lent.{Primitives}
-use Rattle.model.specs.Cases.{Case, paper, bothSides, hardware, table, Hold, blankDigest}
+use Rattle.model.specs.Cases.{Case, paper, bothSides, hardware, secondBurn, table, Hold, blankDigest}
 use Rattle.model.proofs.Everything.{everything}
 
 infixr 2 _&_
@@ -37,9 +37,20 @@ module _ (prims : Primitives) (keys : ℕ → ℕ) where
       let d = blankDigest prims keys in
       ((ap (λ (x : ℕ). (0x00, 0) ∷ (0x00, d) ∷ (0x00, 0) ∷ (0x00, x) ∷ (0x00, x) ∷ []) (number-block d h), tt), tt)
 
+  creator-once : Hold prims keys (secondBurn 0x000)
+  unfolding everything
+  creator-once = (refl, refl) & (refl, tt) & (refl, refl) & (refl, tt) & tt
+
+  device-once : Hold prims keys (secondBurn 0x200)
+  unfolding everything
+  device-once = (refl, refl) & (refl, tt) & (refl, refl) & (refl, tt) & tt
+
   pub cases : blankDigest prims keys < 2 ^ 64 → Hold prims keys (table (blankDigest prims keys))
   unfolding table
   cases h =
+      let d = hardware (blankDigest prims keys) ∷ [] in
       let creator = hold-append paper (bothSides 0x000) paper-holds creator-holds in
       let owner = hold-append (paper ++ bothSides 0x000) (bothSides 0x100) creator owner-holds in
-      hold-append (paper ++ bothSides 0x000 ++ bothSides 0x100) (hardware (blankDigest prims keys) ∷ []) owner (hardware-holds h)
+      let digests = hold-append (paper ++ bothSides 0x000 ++ bothSides 0x100) d owner (hardware-holds h) in
+      let once = hold-append (paper ++ bothSides 0x000 ++ bothSides 0x100 ++ d) (secondBurn 0x000) digests creator-once in
+      hold-append (paper ++ bothSides 0x000 ++ bothSides 0x100 ++ d ++ secondBurn 0x000) (secondBurn 0x200) once device-once

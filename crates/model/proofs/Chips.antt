@@ -65,12 +65,12 @@ if-twin Q {b} x y x′ y′ e f g =
 perform-twin : {P : ℕ → Type 0} {x : Act} → Within P x → (k k′ c d : List ℕ) → length c ≡ length d → Same P c d → Twin P (perform x k c) (perform x k′ d)
 unfolding perform noting
 perform-twin says k k′ c d e h = λ g. record { answer = refl; turn = refl; cells = h }
-perform-twin {P} (programs {at = at} {words = words} inside next) k k′ c d e h =
-    let q : programAnswer c at words ≡ programAnswer d at words = answer-same words c d at (λ j l u. h .at j (inside j l u)) in
+perform-twin {P} (programs {rule = rule} {at = at} {words = words} inside next) k k′ c d e h =
+    let q : programAnswer rule c at words ≡ programAnswer rule d at words = answer-same rule words c d at (λ j l u. h .at j (inside j l u)) in
     rw (← q)
-    (after-twin (Twin P) (programAnswer c at words) _ _ _ _
-    (perform-twin next k k′ (programCells c at words) (programCells d at words) (rw (program-length c words at, program-length d words at) e)
-    (program-alike words c d at e h q))
+    (after-twin (Twin P) (programAnswer rule c at words) _ _ _ _
+    (perform-twin next k k′ (programCells rule c at words) (programCells rule d at words) (rw (program-length rule c words at, program-length rule d words at) e)
+    (program-alike rule words c d at e h q))
     (λ cell g. record { answer = refl; turn = refl; cells = h }))
 perform-twin {P} (compares {test = test} same other) k k′ c d e h = λ g.
     let r = if-twin (Twin P) _ _ _ _ (g .0) (perform-twin same k k′ c d e h) (perform-twin other k k′ c d e h) (g .1) in

@@ -53,7 +53,7 @@ Dies answer halt = Unit {0}
 Dies answer die = codeOf answer ≡ 0x04
 
 dies-ends : Ends Dies
-dies-ends = record { cleared = λ cell. refl; moved = tt; forbidden = tt; open? = tt; differs = tt }
+dies-ends = record { not-blank = λ cell. refl; moved = tt; forbidden = tt; open? = tt; differs = tt }
 
 module _ (prims : Primitives) (map : Map) (m : Machine) where
   command-dies : (x : Command) → Gives Dies (commandAct prims map m x)

@@ -9,6 +9,7 @@ use lib.Dec.{eqb}
 use lib.ListN.{length, getD}
 use borrow.Author.Tests.{eqb-true, eqb-false, eq-eqb}
 use Rattle.basics.proofs.Choice.{by-cases, true-not-false, not-passed, and-left, and-right, and-both, if-false}
+use Rattle.words.specs.declared.Rule.{Rule}
 use Rattle.words.specs.declared.Programmed.the-variants as programmed
 use Rattle.words.specs.Words.{numberOf, wordsOf}
 use Rattle.words.specs.Programming.{programAnswer, programCells}
@@ -50,19 +51,19 @@ module _ (prims : Primitives) (map : Map) (F : fit map ≡ true) (n : ℕ) (D : 
   digest-same c d h = ap numberOf (part-same c d _ 4 (λ j lo hi. h j (lo, hi)))
 
   -- four words programmed there are the digest
-  digest-taken : (m : Machine) → Right map m → (value : ℕ) → programAnswer (m .lent .cells) (p .digest / 2) (wordsOf 4 value) ≡ programmed.Done
-      → value % 2 ^ 64 ≡ storedDigest p (programCells (m .lent .cells) (p .digest / 2) (wordsOf 4 value))
+  digest-taken : (rule : Rule) (m : Machine) → Right map m → (value : ℕ) → programAnswer rule (m .lent .cells) (p .digest / 2) (wordsOf 4 value) ≡ programmed.Done
+      → value % 2 ^ 64 ≡ storedDigest p (programCells rule (m .lent .cells) (p .digest / 2) (wordsOf 4 value))
   unfolding storedDigest
-  digest-taken m r value e =
+  digest-taken rule m r value e =
       let f = partition-fit map F (D .known) in
       let room : p .digest / 2 + 4 ≤ length (m .lent .cells) = omega (arith, f .tail (D .direct), end-within map F (D .known), cells-length prims map m r) in
       sym (number-words 4 value)
-      ∙ ap numberOf (sym (rw length-words at (program-takes (m .lent .cells) (wordsOf 4 value) (p .digest / 2) (rw length-words room) e)))
+      ∙ ap numberOf (sym (rw length-words at (program-takes rule (m .lent .cells) (wordsOf 4 value) (p .digest / 2) (rw length-words room) e)))
 
   -- words programmed elsewhere leave it
-  digest-left : (c words : List ℕ) (at : ℕ) → ((j : ℕ) → Word j → at ≤ j → j < at + length words → ⊥)
-      → storedDigest p (programCells c at words) ≡ storedDigest p c
-  digest-left c words at h = digest-same _ c (λ j w. program-elsewhere c words at j (h j w))
+  digest-left : (rule : Rule) (c words : List ℕ) (at : ℕ) → ((j : ℕ) → Word j → at ≤ j → j < at + length words → ⊥)
+      → storedDigest p (programCells rule c at words) ≡ storedDigest p c
+  digest-left rule c words at h = digest-same _ c (λ j w. program-elsewhere rule c words at j (h j w))
 
   -- what a command makes of it
   data Change (x : Command) (c d : List ℕ) (answer : Answer) : Type 0 where
@@ -74,7 +75,7 @@ module _ (prims : Primitives) (map : Map) (F : fit map ≡ true) (n : ℕ) (D : 
 
   -- ---- a write
 
-  module _ {m : Machine} {a given at : ℕ} {words : List ℕ} {value : ℕ} (w : Written prims map m a given at words value) where
+  module _ {m : Machine} {a given : ℕ} {rule : Rule} {at : ℕ} {words : List ℕ} {value : ℕ} (w : Written prims map m a given rule at words value) where
     -- in the digest it programs the four words of its data, plain
     write-inside : partitionAt map a ≡ p → inDigest p a ≡ true → (at ≡ p .digest / 2) × (words ≡ wordsOf 4 given)
     unfolding scrambled
@@ -98,20 +99,20 @@ module _ (prims : Primitives) (map : Map) (F : fit map ≡ true) (n : ℕ) (D : 
   write-changes m r a value = go (perform-once (write-once prims map m a value) (m .lent .copy) (m .lent .cells))
     where
       go : Burnt (Written prims map m a value) (m .lent .cells) (outcome prims map (Write a value) m) → Changes (Write a value) m
-      go (unburnt e) = kept (rw e)
+      go (unburnt e _) = kept (rw e)
       go (burnt w k f e) =
           by-cases (eqb (numberAt map a) n && inDigest p a)
           (λ t.
           (let q = eqb-true (numberAt map a) n (and-left (eqb (numberAt map a) n) (inDigest p a) t) in
           let d = and-right (eqb (numberAt map a) n) (inDigest p a) t in
           let g = write-inside w (partition-at map a q) d in
-          puts (rw (f, e, w .answer, g .0, g .1) (writes q d (digest-taken m r value (rw (g .0, g .1) at k))))))
-          (λ t. kept (rw f (digest-left _ _ _ (λ j v lo hi. true-not-false (write-meets w j v lo hi) t))))
+          puts (rw (f, e, w .answer, g .0, g .1) (writes q d (digest-taken _ m r value (rw (g .0, g .1) at k))))))
+          (λ t. kept (rw f (digest-left _ _ _ _ (λ j v lo hi. true-not-false (write-meets w j v lo hi) t))))
 
   -- ---- a digest command
 
   -- it programs words of its partition alone
-  computed-word : {m : Machine} {a at : ℕ} {words : List ℕ} {value : ℕ} → Computed prims map m a at words value
+  computed-word : {m : Machine} {a : ℕ} {rule : Rule} {at : ℕ} {words : List ℕ} {value : ℕ} → Computed prims map m a rule at words value
       → (j : ℕ) → at ≤ j → j < at + length words → numberAt map (2 * j) ≡ numberAt map a
   unfolding partitionAt
   computed-word {a = a} w j lo hi =
@@ -121,14 +122,14 @@ module _ (prims : Primitives) (map : Map) (F : fit map ≡ true) (n : ℕ) (D : 
   digest-changes m r a = go (perform-once (digest-once prims map m a) (m .lent .copy) (m .lent .cells))
     where
       go : Burnt (Computed prims map m a) (m .lent .cells) (outcome prims map (Digest a) m) → Changes (Digest a) m
-      go (unburnt e) = kept (rw e)
+      go (unburnt e _) = kept (rw e)
       go (burnt w k f e) =
           by-cases (eqb (numberAt map a) n)
           (λ t.
           (let q = partition-at map a (eqb-true _ _ t) in
           let at-digest = rw q at (w .place) in
-          puts (rw (f, e, at-digest, w .holds) (computes (rw q at (w .first)) (digest-taken m r _ (rw (at-digest, w .holds) at k))))))
-          (λ t. kept (rw f (digest-left _ _ _ (λ j v lo hi. eqb-false _ _ t (sym (computed-word w j lo hi) ∙ word-at j v)))))
+          puts (rw (f, e, at-digest, w .holds) (computes (rw q at (w .first)) (digest-taken _ m r _ (rw (at-digest, w .holds) at k))))))
+          (λ t. kept (rw f (digest-left _ _ _ _ (λ j v lo hi. eqb-false _ _ t (sym (computed-word w j lo hi) ∙ word-at j v)))))
 
   -- ---- every command
 

@@ -12,22 +12,23 @@ use borrow.Author.Tests.{eqb-true, eqb-false, ltb-true, ltb-false}
 use Rattle.basics.proofs.Choice.{by-cases}
 use Rattle.basics.proofs.Range.{all-at}
 use Rattle.basics.proofs.Bits.{xor-xor}
-use Rattle.partitions.specs.Map.{numberAt, partition, partitionAt, inDigest, firstWord}
+use Rattle.words.specs.Words.{numberOf, partAt}
+use Rattle.partitions.specs.Map.{numberAt, partition, partitionAt, inDigest, firstWord, wordCount}
 use Rattle.partitions.specs.Map1.{map1}
 use Rattle.partitions.proofs.Map1.{map1-fit}
-use Rattle.model.specs.declared.Answer.the-variants.{Done, Cleared, Denied}
+use Rattle.model.specs.declared.Answer.the-variants.{Done, NotBlank, Denied}
 use Rattle.model.specs.declared.Command.{Command}
 use Rattle.model.specs.declared.Command.the-variants.{Read, Write, FrontRead, Digest, ReadLock, Transition, PowerUp}
 use Rattle.model.specs.Lent.{Machine}
 use Rattle.life_cycle.specs.declared.LifeCycle.the-variants.{Valid}
-use Rattle.model.specs.Commands.{storedDigest}
+use Rattle.model.specs.Commands.{granule, storedDigest}
 use Rattle.model.specs.PowerUp.{lifeCycleIn}
 use Rattle.model.specs.Step.{after, answers, machineAfter, answerTo}
 use Rattle.model.specs.Cases.{blank, number, blankDigest}
-use Rattle.model.specs.Terms.{Right, Cipher, Digested, Lasts, Spared, usedValue, Allowed, Matched, HiddenWord, Alike}
+use Rattle.model.specs.Terms.{Right, Cipher, Digested, storedWords, Lasts, Spared, usedValue, Allowed, Matched, HiddenWord, Alike}
 use Rattle.model.specs.Demand3.{Demand3, Ready}
 use Rattle.model.specs.Session.{readLocked}
-use Rattle.model.specs.Beyond.{Beyond, Puts, writes, Source, put, stays, moves}
+use Rattle.model.specs.Beyond.{Beyond, written, Puts, writes, Source, put, stays, moves}
 use Rattle.model.proofs.Everything.{everything}
 use Rattle.model.proofs.ToyChip.{toyWith, toy, off, tested}
 use Rattle.model.proofs.Theorems.{refusals, demand3, beyond}
@@ -59,7 +60,7 @@ woken = record { woke = refl; lasts = tt }
 
 allowed : Allowed toy map1 (off blank .lent .constants) blank (machineAfter toy map1 PowerUp (off blank) .lent .cells) 0x003 0x55
 unfolding everything
-allowed = record { below = lit< tt; direct = refl; notDigest = refl; unlocked = refl; keeps = refl }
+allowed = record { below = lit< tt; direct = refl; notDigest = refl; unlocked = refl; blank = refl }
 
 wrote : Machine
 wrote = machineAfter toy map1 (Write 0x003 0x55) (machineAfter toy map1 PowerUp (off blank))
@@ -100,14 +101,14 @@ secret-reads-back : answers toy map1 (PowerUp ∷ Write 0x250 0x77 ∷ Read 0x25
 unfolding everything
 secret-reads-back = refl
 
--- ---- it lasts: a write that clears a bit is refused, a transition and a power-up follow, and 0x001 still reads the same
+-- ---- it lasts: a write that clears no bit is refused, a transition and a power-up follow, and 0x001 still reads the same
 
 passing : List Command
-passing = Write 0x002 0xAA ∷ Transition 1 0 7 ∷ PowerUp ∷ []
+passing = Write 0x002 0xFF ∷ Transition 1 0 7 ∷ PowerUp ∷ []
 
-passed : Spared toy map1 0x003 passing wrote
-unfolding everything Spared passing wrote
-passed = (λ same done. omega arith, (tt, (tt, tt)))
+not-zero : numberOf (storedWords toy map1 (off blank .lent .constants) 0x003 0x55) ≡ 0 → ⊥
+unfolding everything
+not-zero z = omega arith
 
 reads-on : answerTo toy map1 (Read 0x001) (after toy map1 passing wrote) ≡ Done 0x55
 unfolding everything passing wrote
@@ -115,7 +116,55 @@ reads-on = refl
 
 stored-on : 0x55 ≡ usedValue map1 0x003 0x55
 unfolding wrote after
-stored-on = toy-beyond .lasting (off blank) (right blank refl) [] [] woken 0x003 0x55 (lit< tt) allowed passing passed 0x001 0x55 one-granule reads-on
+stored-on = toy-beyond .lasting (off blank) (right blank refl) [] [] woken 0x003 0x55 (lit< tt) allowed passing (λ z. absurd (not-zero z)) 0x001 0x55 one-granule reads-on
+
+-- a write of zero leaves its granule blank: it reads 0 as long as no other write to the granule answers 0
+allowed-zero : Allowed toy map1 (off blank .lent .constants) blank (machineAfter toy map1 PowerUp (off blank) .lent .cells) 0x003 0
+unfolding everything
+allowed-zero = record { below = lit< tt; direct = refl; notDigest = refl; unlocked = refl; blank = refl }
+
+wrote-zero : Machine
+wrote-zero = machineAfter toy map1 (Write 0x003 0) (machineAfter toy map1 PowerUp (off blank))
+
+sparing : List Command
+sparing = Write 0x004 0xFF ∷ Transition 1 0 7 ∷ PowerUp ∷ []
+
+passed : Spared toy map1 0x003 sparing wrote-zero
+unfolding everything Spared sparing wrote-zero
+passed = (λ same done. omega arith, (tt, (tt, tt)))
+
+zero-read : answerTo toy map1 (Read 0x001) (after toy map1 sparing wrote-zero) ≡ Done 0
+unfolding everything sparing wrote-zero
+zero-read = refl
+
+zero-on : 0 ≡ usedValue map1 0x003 0
+unfolding wrote-zero after
+zero-on = toy-beyond .lasting (off blank) (right blank refl) [] [] woken 0x003 0 (lit< tt) allowed-zero sparing (λ z. passed) 0x001 0 one-granule zero-read
+
+-- ---- nothing is burnt twice: the write of 0x55 at 0x003 found words 0 and 1 blank, and whatever else is written there, 0x55 stands
+
+found-word : getD (after toy map1 (PowerUp ∷ []) (off blank) .lent .cells) 1 0 ≡ 0
+found-word =
+    toy-beyond .blanks (off blank) (right blank refl) (PowerUp ∷ []) (Write 0x003 0x55) 0 2 (unfold everything in written) (unfold everything in refl) 1 (omega arith) (lit< tt)
+
+burnt-word : getD (wrote .lent .cells) 0 0 ≡ 0x55
+unfolding everything wrote
+burnt-word = refl
+
+word-left : getD (machineAfter toy map1 (Write 0x003 0xFF) wrote .lent .cells) 0 0 ≡ getD (wrote .lent .cells) 0 0
+unfolding after
+word-left = toy-beyond .burns wrote [] (Write 0x003 0xFF) 0 2 (unfold everything in written) 0 (λ z. omega (arith, burnt-word))
+
+granule-held : granule (partitionAt map1 0x001) (wrote .lent .cells) 0x001 ≡ 0x55
+unfolding everything wrote
+granule-held = refl
+
+granule-left : let p = partitionAt map1 0x001 in
+    partAt (after toy map1 (passing ++ staying) wrote .lent .cells) (firstWord p 0x001) (wordCount p 0x001)
+    ≡ partAt (wrote .lent .cells) (firstWord p 0x001) (wordCount p 0x001)
+unfolding after
+granule-left =
+    toy-beyond .granules wrote 0x001 (unfold everything in (lit< tt)) (unfold everything in refl) [] (passing ++ staying) (λ z. omega (arith, granule-held))
 
 -- ---- a lock: with a digest of 1 written to CREATOR_SW_CFG, the next power-up finds it locked
 
@@ -139,7 +188,7 @@ refused-since = refl
 halves : List Command
 halves = PowerUp ∷ Write 0x0F8 1 ∷ Write 0x0FC 0x100000000 ∷ PowerUp ∷ []
 
-halves-answer : answers toy map1 halves (off blank) ≡ Done 0 ∷ Done 0 ∷ Cleared 124 ∷ Done 0 ∷ []
+halves-answer : answers toy map1 halves (off blank) ≡ Done 0 ∷ Done 0 ∷ NotBlank 124 ∷ Done 0 ∷ []
 unfolding everything halves
 halves-answer = refl
 

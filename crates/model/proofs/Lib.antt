@@ -6,6 +6,7 @@ pub mod Locks
 pub mod Targets
 pub mod Digests
 pub mod Ready
+pub mod SecondBurns
 pub mod Writes
 pub mod Chips
 pub mod Strokes

@@ -52,7 +52,7 @@ Other answer t = codeOf answer ≡ 0x11 → ⊥
 
 other-ends : Ends Other
 other-ends = record {
-  cleared = λ cell. eqb-false _ _ refl;
+  not-blank = λ cell. eqb-false _ _ refl;
   moved = eqb-false _ _ refl;
   forbidden = eqb-false _ _ refl;
   open? = eqb-false _ _ refl;

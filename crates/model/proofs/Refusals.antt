@@ -9,12 +9,13 @@ use lib.Dec.{eqb}
 use borrow.Author.Tests.{eqb-false}
 use Rattle.basics.specs.Choice.{if_then_else_}
 use Rattle.basics.proofs.Choice.{if-both, true-not-false}
+use Rattle.words.specs.declared.Rule.{Rule}
 use Rattle.words.specs.Programming.{programAnswer}
 use Rattle.partitions.specs.Map.{Map}
 use Rattle.life_cycle.specs.declared.LifeCycle.{LifeCycle}
 use Rattle.life_cycle.specs.declared.LifeCycle.the-variants.{Valid, Invalid}
 use Rattle.model.specs.declared.Answer.{Answer}
-use Rattle.model.specs.declared.Answer.the-variants.{Done, Cleared, StrokesUsed, NotInTable, TokenNotLocked, TokenDiffers}
+use Rattle.model.specs.declared.Answer.the-variants.{Done, NotBlank, StrokesUsed, NotInTable, TokenNotLocked, TokenDiffers}
 use Rattle.model.specs.declared.Session.{Session}
 use Rattle.model.specs.declared.Command.{Command}
 use Rattle.model.specs.declared.Command.the-variants.{Read, Write, FrontRead, Digest, ReadLock, Transition, PowerUp}
@@ -42,7 +43,7 @@ same-machine prims map m r e f = rw (e, f) refl
 data Clean : Act → Type 0 where
   done : {value : ℕ} {turn : Turn} → Clean (say (Done value) turn)
   refused : {answer : Answer} → Clean (refuse answer)
-  programmed : {at value : ℕ} {words : List ℕ} {turn : Turn} → Clean (program at words stay (say (Done value) turn))
+  programmed : {rule : Rule} {at value : ℕ} {words : List ℕ} {turn : Turn} → Clean (program rule at words stay (say (Done value) turn))
 
 -- what an act that did not answer 0 came to
 abbrev Nothing-done : List ℕ → Performed → Type 0
@@ -55,8 +56,8 @@ perform-clean : {x : Act} → Clean x → (copy cells : List ℕ) → Nothing-do
 unfolding perform
 perform-clean done copy cells = λ h. absurd (h refl)
 perform-clean refused copy cells = λ h. (refl, refl)
-perform-clean (programmed {at = at} {words = words}) copy cells =
-    after-both (Nothing-done cells) (programAnswer cells at words) _ _ (λ e h. absurd (h refl)) (λ cell e h. (refl, refl))
+perform-clean (programmed {rule = rule} {at = at} {words = words}) copy cells =
+    after-both (Nothing-done cells) (programAnswer rule cells at words) _ _ (λ e h. absurd (h refl)) (λ cell e h. (refl, refl))
 
 module _ (prims : Primitives) (map : Map) (m : Machine) where
   command-clean : (x : Command) → quiet x → Clean (readyAct prims map m x)
@@ -121,7 +122,8 @@ Later answer turn =
 data Transits : Act → Type 0 where
   refuses : {answer : Answer} → early (codeOf answer) ≡ true → Transits (refuse answer)
   used : Transits (say StrokesUsed halt)
-  spends : {at : ℕ} {words : List ℕ} {turn : Turn} {next : Act} → Gives Later (program at words turn next) → Transits (program at words turn next)
+  spends : {rule : Rule} {at : ℕ} {words : List ℕ} {turn : Turn} {next : Act} → Gives Later (program rule at words turn next)
+      → Transits (program rule at words turn next)
 
 -- what a transition came to
 abbrev Ended : Session → List ℕ → Performed → Type 0
@@ -147,7 +149,7 @@ later-by answer turn e u f = (e, eqb-false _ _ u, f)
 later-ends : Ends Later
 unfolding early phaseAfter turned if_then_else_
 later-ends = record {
-  cleared = λ cell. later-by (Cleared cell) die refl refl (λ s. refl);
+  not-blank = λ cell. later-by (NotBlank cell) die refl refl (λ s. refl);
   moved = later-by (Done 0) halt refl refl (λ s. refl);
   forbidden = later-by NotInTable halt refl refl (λ s. refl);
   open? = later-by TokenNotLocked halt refl refl (λ s. refl);
@@ -159,7 +161,7 @@ module _ (prims : Primitives) (map : Map) (m : Machine) where
   unfolding readyAct commandAct transitionAct early
   transition-transits target high low =
       transits-if (λ e. refuses refl) λ e. transits-if (λ e. refuses refl) λ e. transits-if (λ e. refuses refl)
-      λ e. transits-if (λ e. used) λ e. spends (programs (later-ends .cleared) (entry-gives later-ends prims map m _ target _))
+      λ e. transits-if (λ e. used) λ e. spends (programs (later-ends .not-blank) (entry-gives later-ends prims map m _ target _))
 
   -- what a transition comes to, as a step
   abbrev Transited : Step → Type 0

@@ -1,5 +1,5 @@
--- Computed runs of rules that the paper's 14 cases do not show: tokens of a locked partition, digests, read locks, power-ups that fail, and records that no
--- power-up leaves.
+-- Computed runs of rules that the table of cases does not show: tokens of a locked partition, digests, second burns, read locks, power-ups that fail, and
+-- records that no power-up leaves.
 use mathlib.Core.Path.{_≡_, refl}
 use mathlib.Core.Bool.{false}
 use mathlib.Core.List.{List, [], _∷_, _++_}
@@ -8,7 +8,7 @@ use lib.ListN.{getD, set, replicate}
 use Rattle.partitions.specs.Map1.{map1}
 use Rattle.model.specs.declared.Reason.the-variants.{BitCleared}
 use Rattle.model.specs.declared.Phase.the-variants.{Ready, Dead}
-use Rattle.model.specs.declared.Answer.the-variants.{Done, Cleared, Denied, DigestFailed, NotReady, LifeCycleFailed, UnknownTarget, TokenDiffers}
+use Rattle.model.specs.declared.Answer.the-variants.{Done, NotBlank, Denied, DigestFailed, NotReady, LifeCycleFailed, UnknownTarget, TokenDiffers}
 use Rattle.model.specs.declared.Command.the-variants.{Read, Write, FrontRead, Digest, ReadLock, Transition, PowerUp}
 use Rattle.model.specs.Lent.{Machine, Primitives}
 use Rattle.model.specs.Step.{step, after, answers, machineAfter, answerTo}
@@ -43,6 +43,25 @@ zero-digest :
     ≡ Done 0 ∷ Done 0 ∷ Done 0 ∷ Done 0 ∷ Done 0 ∷ []
 unfolding everything
 zero-digest = refl
+
+-- ---- no second burn (request Three): a digest command on a digest that is there, though it computes the same
+
+digest-again : answers toy map1 (PowerUp ∷ Digest 0x200 ∷ Digest 0x200 ∷ []) (off blank) ≡ Done 0 ∷ Done 1 ∷ NotBlank 292 ∷ []
+unfolding everything
+digest-again = refl
+
+-- "a zero in a secret granule is stored scrambled, and burns": here as 1
+zero-scrambled : answers toy map1 (PowerUp ∷ Write 0x250 0 ∷ Write 0x250 0 ∷ Read 0x250 ∷ []) (off blank) ≡ Done 0 ∷ Done 0 ∷ NotBlank 296 ∷ Done 0 ∷ []
+unfolding everything
+zero-scrambled = refl
+
+-- ".. unless that form is zero too": here that of 1
+scrambled-zero :
+    (answers toy map1 (PowerUp ∷ Write 0x250 1 ∷ Read 0x250 ∷ []) (off blank) ≡ Done 0 ∷ Done 0 ∷ Done 1 ∷ [])
+    × (after toy map1 (PowerUp ∷ Write 0x250 1 ∷ []) (off blank) .lent .cells ≡ blank)
+    × (answers toy map1 (PowerUp ∷ Write 0x250 1 ∷ Write 0x250 5 ∷ Read 0x250 ∷ []) (off blank) ≡ Done 0 ∷ Done 0 ∷ Done 0 ∷ Done 5 ∷ [])
+unfolding everything
+scrambled-zero = (refl, refl, refl)
 
 -- ---- read locks last until power-up, and locking again answers 0
 
@@ -90,7 +109,7 @@ ready state cells = record {
 
 -- "A 4 at either programming leaves that step's words alone": a counter word that refuses
 stroke-refused :
-    (answerTo toy map1 (Transition 1 0 7) (ready 0 (set blank 404 4)) ≡ Cleared 404)
+    (answerTo toy map1 (Transition 1 0 7) (ready 0 (set blank 404 4)) ≡ NotBlank 404)
     × (machineAfter toy map1 (Transition 1 0 7) (ready 0 (set blank 404 4)) .lent .cells ≡ set blank 404 4)
     × (machineAfter toy map1 (Transition 1 0 7) (ready 0 (set blank 404 4)) .session .phase ≡ Dead BitCleared)
 unfolding everything
@@ -98,7 +117,7 @@ stroke-refused = (refl, refl, refl)
 
 -- a state word that refuses, once the stroke is spent: the counter words stand
 state-refused :
-    (answerTo toy map1 (Transition 1 0 7) (ready 0 (set blank 430 4)) ≡ Cleared 430)
+    (answerTo toy map1 (Transition 1 0 7) (ready 0 (set blank 430 4)) ≡ NotBlank 430)
     × (machineAfter toy map1 (Transition 1 0 7) (ready 0 (set blank 430 4)) .lent .cells
     ≡ replicate 404 0 ++ (3 ∷ replicate 23 1) ++ (0 ∷ 0 ∷ 4 ∷ replicate 17 0))
 unfolding everything

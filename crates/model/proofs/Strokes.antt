@@ -40,7 +40,7 @@ use Rattle.model.specs.Answers.{codeOf}
 use Rattle.model.specs.Session.{isReady}
 use Rattle.model.specs.Lent.{Lent, Machine, Primitives}
 use Rattle.model.specs.Acts.{Turn, stay, lock, halt, die, turned, Act, say, program, compare, Performed, afterProgram, noting, perform}
-use Rattle.model.specs.Commands.{counterAt, stateAt, moveAct, lockedTokenAct, tokenAct, entryAct, transitionAct, commandAct, readyAct}
+use Rattle.model.specs.Commands.{lifeCycleRule, counterAt, stateAt, moveAct, lockedTokenAct, tokenAct, entryAct, transitionAct, commandAct, readyAct}
 use Rattle.model.specs.PowerUp.{Waking, waking, wakingOf, lifeCycleWaking, verdictOf, lifeCycleIn, wokenSession}
 use Rattle.model.specs.Step.{Step, unchanged, performed, act, powerUp, obey, step, after, machineAfter, answerTo}
 use Rattle.model.specs.Terms.{Right}
@@ -77,11 +77,11 @@ turned-life die s = (refl, refl)
 pub data Moved (prims : Primitives) (map : Map) (m : Machine) (target : ℕ) (r : Performed) : Type 0 where
   still : r .cells ≡ m .lent .cells → (codeOf (r .answer) ≡ 0x04 → ⊥) → Moved prims map m target r
   spent : Alive prims map m → m .session .count < 24
-      → r .cells ≡ programCells (m .lent .cells) (counterAt map) (counterWords (m .lent .constants) (suc (m .session .count)))
+      → r .cells ≡ programCells lifeCycleRule (m .lent .cells) (counterAt map) (counterWords (m .lent .constants) (suc (m .session .count)))
       → stops (r .turn) → (codeOf (r .answer) ≡ 0x04 → ⊥) → Moved prims map m target r
   reached : {token : Token} → Alive prims map m → m .session .count < 24
       → transition (m .session .state) target ≡ Allowed token
-      → r .cells ≡ programCells (programCells (m .lent .cells) (counterAt map) (counterWords (m .lent .constants) (suc (m .session .count))))
+      → r .cells ≡ programCells lifeCycleRule (programCells lifeCycleRule (m .lent .cells) (counterAt map) (counterWords (m .lent .constants) (suc (m .session .count))))
       (stateAt map) (stateWords (m .lent .constants) target)
       → stops (r .turn) → (codeOf (r .answer) ≡ 0x04 → ⊥) → Moved prims map m target r
 
@@ -102,13 +102,13 @@ module _ (prims : Primitives) (map : Map) (F : fit map ≡ true) (m : Machine) (
 
   -- the cells once a stroke is spent
   abbrev cells₁ : List ℕ
-  cells₁ = programCells (m .lent .cells) (counterAt map) counter
+  cells₁ = programCells lifeCycleRule (m .lent .cells) (counterAt map) counter
 
   says : (partAt (m .lent .cells) (counterAt map) 24 ≡ counterWords k (m .session .count)) × (partAt (m .lent .cells) (stateAt map) 20 ≡ stateWords k (m .session .state))
   unfolding lifeCycleIn
   says = let d = decoded-says k _ _ _ _ live in (d .0, d .1)
 
-  stroke-fits : programAnswer (m .lent .cells) (counterAt map) counter ≡ programmed.Done
+  stroke-fits : programAnswer lifeCycleRule (m .lent .cells) (counterAt map) counter ≡ programmed.Done
   stroke-fits = stroke-done k (r .valid) (m .lent .cells) (counterAt map) (m .session .count) (says .0)
 
   -- spending a stroke leaves the state words
@@ -116,11 +116,11 @@ module _ (prims : Primitives) (map : Map) (F : fit map ≡ true) (m : Machine) (
   unfolding stateAt
   state-stays =
       let short = counter-length k (suc (m .session .count)) in
-      part-same cells₁ (m .lent .cells) _ 20 (λ j l u. program-elsewhere (m .lent .cells) counter (counterAt map) j (λ a b. omega (arith, short)))
+      part-same cells₁ (m .lent .cells) _ 20 (λ j l u. program-elsewhere lifeCycleRule (m .lent .cells) counter (counterAt map) j (λ a b. omega (arith, short)))
       ∙ says .1
 
   move-fits : (target : ℕ) {token : Token} → transition (m .session .state) target ≡ Allowed token
-      → programAnswer cells₁ (stateAt map) (stateWords k target) ≡ programmed.Done
+      → programAnswer lifeCycleRule cells₁ (stateAt map) (stateWords k target) ≡ programmed.Done
   move-fits target a = transition-done k (r .valid) cells₁ (stateAt map) (m .session .state) target state-stays a
 
   module _ (target : ℕ) where
@@ -161,7 +161,7 @@ module _ (prims : Primitives) (map : Map) (F : fit map ≡ true) (m : Machine) (
     entry-ok Forbidden given a = said NotInTable refl
     entry-ok (Allowed token) given a = token-ok token given a
 
-    spend-ok : (given : ℕ) → Ok (perform (program (counterAt map) counter die (entryAct prims map m (transition (m .session .state) target) target given)) (m .lent .copy) (m .lent .cells))
+    spend-ok : (given : ℕ) → Ok (perform (program lifeCycleRule (counterAt map) counter die (entryAct prims map m (transition (m .session .state) target) target given)) (m .lent .copy) (m .lent .cells))
     unfolding perform afterProgram
     spend-ok given = rw stroke-fits (entry-ok (transition (m .session .state) target) given refl)
 
@@ -233,7 +233,7 @@ module _ (prims : Primitives) (map : Map) (F : fit map ≡ true) where
     counter-held : partAt c₁ (counterAt map) 24 ≡ strokes
     counter-held =
         let inside : counterAt map + length strokes ≤ length (m .lent .cells) = rw counter-length (omega (arith, life-inside)) in
-        rw counter-length at (program-takes (m .lent .cells) strokes (counterAt map) inside (stroke-fits prims map F m r live room))
+        rw counter-length at (program-takes lifeCycleRule (m .lent .cells) strokes (counterAt map) inside (stroke-fits prims map F m r live room))
 
     -- what these words decode to
     decodes : (cells copy : List ℕ) (state : ℕ) → state ≤ 20 → partAt cells (counterAt map) 24 ≡ strokes
@@ -255,18 +255,18 @@ module _ (prims : Primitives) (map : Map) (F : fit map ≡ true) where
       ws = stateWords t target
 
       abbrev c₂ : List ℕ
-      c₂ = programCells c₁ (stateAt map) ws
+      c₂ = programCells lifeCycleRule c₁ (stateAt map) ws
 
       counter-still : partAt c₂ (counterAt map) 24 ≡ strokes
       unfolding stateAt
-      counter-still = part-same _ c₁ _ 24 (λ j lo hi. program-elsewhere c₁ ws (stateAt map) j (λ from upto. omega arith)) ∙ counter-held
+      counter-still = part-same _ c₁ _ 24 (λ j lo hi. program-elsewhere lifeCycleRule c₁ ws (stateAt map) j (λ from upto. omega arith)) ∙ counter-held
 
       state-held : partAt c₂ (stateAt map) 20 ≡ ws
       unfolding stateAt
       state-held =
-          let same = program-length (m .lent .cells) strokes (counterAt map) in
+          let same = program-length lifeCycleRule (m .lent .cells) strokes (counterAt map) in
           let inside : stateAt map + length ws ≤ length c₁ = rw state-length (omega (arith, life-inside, same)) in
-          rw state-length at (program-takes c₁ ws (stateAt map) inside (move-fits prims map F m r live room target a))
+          rw state-length at (program-takes lifeCycleRule c₁ ws (stateAt map) inside (move-fits prims map F m r live room target a))
 
       moved-life : (copy : List ℕ) → lifeCycleIn map (record { cells = c₂; copy = copy; constants = t }) ≡ Valid target (suc (m .session .count))
       moved-life copy = decodes c₂ copy target (allowed-ends (m .session .state) target a .within) counter-still state-held

@@ -7,7 +7,7 @@ use Rattle.life_cycle.specs.declared.Token.the-variants.{Nothing, RawUnlock, Te
 use Rattle.life_cycle.specs.declared.Entry.{Entry}
 use Rattle.life_cycle.specs.declared.Entry.the-variants.{Allowed, Forbidden}
 use Rattle.model.specs.declared.Answer.{Answer}
-use Rattle.model.specs.declared.Answer.the-variants.{Done, Cleared, NotInTable, TokenNotLocked, TokenDiffers}
+use Rattle.model.specs.declared.Answer.the-variants.{Done, NotBlank, NotInTable, TokenNotLocked, TokenDiffers}
 use Rattle.model.specs.Lent.{Machine, Primitives}
 use Rattle.model.specs.Acts.{Turn, halt, die}
 use Rattle.model.specs.Commands.{moveAct, lockedTokenAct, tokenAct, entryAct}
@@ -15,7 +15,7 @@ use Rattle.model.proofs.Acts.{Gives, says, programs, compares, gives-if
 
 -- the five ends have the property
 pub record Ends (T : Answer → Turn → Type 0) : Type 0 where
-  pub cleared : (cell : ℕ) → T (Cleared cell) die
+  pub not-blank : (cell : ℕ) → T (NotBlank cell) die
   pub moved : T (Done 0) halt
   pub forbidden : T NotInTable halt
   pub open? : T TokenNotLocked halt
@@ -24,7 +24,7 @@ pub record Ends (T : Answer → Turn → Type 0) : Type 0 where
 module _ {T : Answer → Turn → Type 0} (ends : Ends T) (prims : Primitives) (map : Map) (m : Machine) where
   move-gives : (target : ℕ) → Gives T (moveAct prims map m target)
   unfolding moveAct
-  move-gives target = programs (ends .cleared) (says (ends .moved))
+  move-gives target = programs (ends .not-blank) (says (ends .moved))
 
   locked-gives : (token : Token) (target given : ℕ) → Gives T (lockedTokenAct prims map m token target given)
   unfolding lockedTokenAct

@@ -5,9 +5,9 @@ use mathlib.Core.Bool.{true, false, not, _&&_}
 use mathlib.Core.List.{List, [], _∷_}
 use Prim.Native.Nat.{ℕ, _+_, _*_, _^_, _≤_, _<_}
 use native.Mathlib.Omega.{arith}
-use lib.Dec.{lit<}
+use lib.Dec.{eqb, lit<}
 use lib.ListN.{getD}
-use borrow.Author.Tests.{leb-false, lt-leb, eq-eqb}
+use borrow.Author.Tests.{leb-false, lt-leb, eq-eqb, eqb-true, eqb-false}
 use Rattle.basics.proofs.Choice.{by-cases, true-not-false, not-passed, and-both, and-false, if-true, if-false, if-both}
 use Rattle.words.specs.Words.{numberOf, wordsOf, partAt}
 use Rattle.words.specs.Programming.{programCells}
@@ -29,7 +29,7 @@ use Rattle.model.specs.Answers.{codeOf, valueOf}
 use Rattle.model.specs.Session.{sensedLocked, readLocked}
 use Rattle.model.specs.Lent.{Machine, Primitives, keyOf}
 use Rattle.model.specs.Acts.{stay, Act, say, afterProgram, perform}
-use Rattle.model.specs.Commands.{granule, storedDigest, scrambled, unscrambled, writeAct, readAct, commandAct, readyAct}
+use Rattle.model.specs.Commands.{directRule, granule, storedDigest, scrambled, unscrambled, writeAct, readAct, commandAct, readyAct}
 use Rattle.model.specs.Step.{Step, unchanged, performed, act, powerUp, step, after, machineAfter, answerTo}
 use Rattle.model.specs.Terms.{Right, Cipher, Digested, spares, storedWords, usedValue, Lasts, Spared, Allowed, TakesEffect}
 use Rattle.model.specs.Demand3.{Ready}
@@ -37,6 +37,7 @@ use Rattle.model.proofs.Acts.{Burnt, unburnt, burnt, perform-once, not-
 use Rattle.model.proofs.Targets.{Written, write-once}
 use Rattle.model.proofs.Frame.{Sealed, Aim, aimless-word}
 use Rattle.model.proofs.Steps.{outcome, step-all, cells-length, step-right, after-right, step-constants, after-constants}
+use Rattle.model.proofs.SecondBurns.{after-held}
 use Rattle.model.proofs.Ready.{step-act, Fresh, first-fresh, step-fresh, after-fresh}
 
 -- ---- keys fit, so scrambling can be undone
@@ -84,7 +85,7 @@ module _ (prims : Primitives) (C : Cipher prims) (map : Map) (F : fit map ≡ tr
   write-performed : (c₀ : List ℕ) (m : Machine) → Fresh map c₀ m → (a value : ℕ) → Allowed prims map (m .lent .constants) c₀ (m .lent .cells) a value
       → perform (readyAct prims map m (Write a value)) (m .lent .copy) (m .lent .cells)
       ≡ record {
-        cells = programCells (m .lent .cells) (firstWord (partitionAt map a) a) (storedWords prims map (m .lent .constants) a value);
+        cells = programCells directRule (m .lent .cells) (firstWord (partitionAt map a) a) (storedWords prims map (m .lent .constants) a value);
         answer = Done 0;
         turn = stay;
         compared = [];
@@ -94,14 +95,14 @@ module _ (prims : Primitives) (C : Cipher prims) (map : Map) (F : fit map ≡ tr
       ap (λ (x : Act). perform x (m .lent .copy) (m .lent .cells))
       (if-false _ _ (ap not (f .awake)) ∙ if-false _ _ (lt-leb _ _ (al .below)) ∙ if-false _ _ (ap not (al .direct)) ∙ if-false _ _ (al .notDigest)
       ∙ if-false _ _ (not-sensed c₀ m f a (al .below) (al .direct) (al .unlocked)))
-      ∙ rw (al .keeps)
+      ∙ rw (al .blank)
 
   pub write-takes : (c₀ : List ℕ) (m : Machine) → Fresh map c₀ m → (a value : ℕ) → Allowed prims map (m .lent .constants) c₀ (m .lent .cells) a value
       → TakesEffect prims map m a value (step prims map (Write a value) m)
   unfolding act performed
   write-takes c₀ m f a value al =
       rw (step-act prims map (Write a value) m (f .right) tt, write-performed c₀ m f a value al)
-      (record { done = refl; holds = held; others = λ j n. program-elsewhere (m .lent .cells) vs i j (λ l u. n l (rw length-words at u)) })
+      (record { done = refl; holds = held; others = λ j n. program-elsewhere directRule (m .lent .cells) vs i j (λ l u. n l (rw length-words at u)) })
     where
       i : ℕ
       i = firstWord (partitionAt map a) a
@@ -109,10 +110,10 @@ module _ (prims : Primitives) (C : Cipher prims) (map : Map) (F : fit map ≡ tr
       vs : List ℕ
       vs = storedWords prims map (m .lent .constants) a value
 
-      held : partAt (programCells (m .lent .cells) i vs) i (wordCount (partitionAt map a) a) ≡ vs
+      held : partAt (programCells directRule (m .lent .cells) i vs) i (wordCount (partitionAt map a) a) ≡ vs
       held =
           let inside = granule-within map F (al .below) in
-          rw length-words at (program-takes (m .lent .cells) vs i (rw length-words (omega (arith, inside, cells-length prims map m (f .right)))) (al .keeps))
+          rw length-words at (program-takes directRule (m .lent .cells) vs i (rw length-words (omega (arith, inside, cells-length prims map m (f .right)))) (al .blank))
 
   -- ---- what leaves the granule alone
 
@@ -143,9 +144,9 @@ module _ (prims : Primitives) (C : Cipher prims) (map : Map) (F : fit map ≡ tr
       where
         go : Burnt (Written prims map m b value) (m .lent .cells) (outcome prims map (Write b value) m)
             → getD (outcome prims map (Write b value) m .cells) j 0 ≡ getD (m .lent .cells) j 0
-        go (unburnt e) = rw e
+        go (unburnt e _) = rw e
         go (burnt w k f e) =
-            rw (f, w .place, w .holds) (program-elsewhere (m .lent .cells) _ _ j
+            rw (f, w .place, w .holds) (program-elsewhere _ (m .lent .cells) _ _ j
             (λ lo′ hi′. sp (shared-word map F (w .below) below lo′ (rw length-words at hi′) lo hi .first) (ap codeOf e)))
     word-stays (Digest b) m sp j lo hi = aimless (Digest b) m j lo hi (not-sealed j lo hi)
     word-stays (Read b) m sp j lo hi = aimless (Read b) m j lo hi (λ z. z)
@@ -285,13 +286,17 @@ module _ (prims : Primitives) (C : Cipher prims) (map : Map) (F : fit map ≡ tr
     fresh : Fresh map c₀ m₁
     fresh = after-fresh prims map F c₀ l₁ (woken m l₀ l₁) (ready .lasts) (first-fresh prims map F (found m l₀ l₁) (after-right prims map l₀ m r) (ready .woke))
 
+    same-constants : m₁ .lent .constants ≡ m .lent .constants
+    same-constants = after-constants prims map l₁ (woken m l₀ l₁) ∙ step-constants prims map PowerUp (found m l₀ l₁) ∙ after-constants prims map l₀ m
+
     pub write-taken : TakesEffect prims map m₁ a value s
     write-taken = write-takes c₀ m₁ fresh a value (rw same-constants al)
-      where
-        same-constants : m₁ .lent .constants ≡ m .lent .constants
-        same-constants = after-constants prims map l₁ (woken m l₀ l₁) ∙ step-constants prims map PowerUp (found m l₀ l₁) ∙ after-constants prims map l₀ m
 
-    module _ (l₂ : List Command) (spared : Spared prims map a l₂ (s .result .machine)) where
+    -- the granule as the write left it, after l₂
+    module _ (l₂ : List Command)
+        (stays : let p = partitionAt map a in
+        partAt (after prims map l₂ (s .result .machine) .lent .cells) (firstWord p a) (wordCount p a)
+        ≡ partAt (s .result .machine .lent .cells) (firstWord p a) (wordCount p a)) where
       abbrev m₂ : Machine
       m₂ = after prims map l₂ (s .result .machine)
 
@@ -301,17 +306,41 @@ module _ (prims : Primitives) (C : Cipher prims) (map : Map) (F : fit map ≡ tr
       still-held : partAt (m₂ .lent .cells) (firstWord (partitionAt map a) a) (wordCount (partitionAt map a) a) ≡ storedWords prims map (m₂ .lent .constants) a value
       still-held =
           let e : m₂ .lent .constants ≡ m₁ .lent .constants = after-constants prims map l₂ (s .result .machine) ∙ step-constants prims map (Write a value) m₁ in
-          rw e (after-stays a (al .below) (al .direct) (al .notDigest) l₂ (s .result .machine) spared ∙ write-taken .holds)
+          rw e (stays ∙ write-taken .holds)
 
-      -- while Ready lasts, every read of the granule answers 0 and the data used
-      pub reads-back : Lasts prims map l₂ (s .result .machine) → (b : ℕ) → b < limit map → firstWord (partitionAt map b) b ≡ firstWord (partitionAt map a) a
-          → (inDigest (partitionAt map b) b ≡ false → readLocked (m₂ .session) (numberAt map b) ≡ false)
-          → answerTo prims map (Read b) m₂ ≡ Done (usedValue map a value)
-      reads-back lasts b low same =
-          let f = after-fresh prims map F c₀ l₂ (s .result .machine) lasts (step-fresh prims map F c₀ (Write a value) m₁ tt fresh) in
-          read-back a (al .below) (al .direct) (al .notDigest) b low same m₂ still-right value v still-held c₀ f (al .unlocked)
+    spared-stays : (l₂ : List Command) → Spared prims map a l₂ (s .result .machine) → let p = partitionAt map a in
+        partAt (after prims map l₂ (s .result .machine) .lent .cells) (firstWord p a) (wordCount p a)
+        ≡ partAt (s .result .machine .lent .cells) (firstWord p a) (wordCount p a)
+    spared-stays l₂ = after-stays a (al .below) (al .direct) (al .notDigest) l₂ (s .result .machine)
 
-      -- and ever after, every read of the granule that answers 0 answers the data used
-      pub reads-last : (b shown : ℕ) → firstWord (partitionAt map b) b ≡ firstWord (partitionAt map a) a
-          → answerTo prims map (Read b) m₂ ≡ Done shown → shown ≡ usedValue map a value
-      reads-last = read-lasts a (al .below) (al .direct) (al .notDigest) m₂ still-right value v still-held
+    -- while Ready lasts, every read of the granule answers 0 and the data used
+    pub reads-back : (l₂ : List Command) → Spared prims map a l₂ (s .result .machine) → Lasts prims map l₂ (s .result .machine)
+        → let m₂ = after prims map l₂ (s .result .machine) in
+        (b : ℕ) → b < limit map → firstWord (partitionAt map b) b ≡ firstWord (partitionAt map a) a
+        → (inDigest (partitionAt map b) b ≡ false → readLocked (m₂ .session) (numberAt map b) ≡ false)
+        → answerTo prims map (Read b) m₂ ≡ Done (usedValue map a value)
+    reads-back l₂ spared lasts b low same =
+        let f = after-fresh prims map F c₀ l₂ (s .result .machine) lasts (step-fresh prims map F c₀ (Write a value) m₁ tt fresh) in
+        let k = spared-stays l₂ spared in
+        read-back a (al .below) (al .direct) (al .notDigest) b low same (m₂ l₂ k) (still-right l₂ k) value v (still-held l₂ k) c₀ f (al .unlocked)
+
+    stored-number : granule (partitionAt map a) (s .result .machine .lent .cells) a ≡ numberOf (storedWords prims map (m .lent .constants) a value)
+    unfolding granule
+    stored-number = rw (write-taken .holds, same-constants)
+
+    -- where the stored form is not zero the granule is not blank, and is never written again
+    lasting-stays : (l₂ : List Command) → (numberOf (storedWords prims map (m .lent .constants) a value) ≡ 0 → Spared prims map a l₂ (s .result .machine))
+        → let p = partitionAt map a in
+        partAt (after prims map l₂ (s .result .machine) .lent .cells) (firstWord p a) (wordCount p a)
+        ≡ partAt (s .result .machine .lent .cells) (firstWord p a) (wordCount p a)
+    lasting-stays l₂ spared =
+        by-cases (eqb (numberOf (storedWords prims map (m .lent .constants) a value)) 0) (λ t. spared-stays l₂ (spared (eqb-true _ _ t)))
+        (λ t. after-held prims map F a (al .below) (al .direct) l₂ (s .result .machine) (λ z. eqb-false _ _ t (sym stored-number ∙ z)))
+
+    -- and ever after, every read of the granule that answers 0 answers the data used
+    pub reads-last : (l₂ : List Command) → (numberOf (storedWords prims map (m .lent .constants) a value) ≡ 0 → Spared prims map a l₂ (s .result .machine))
+        → (b shown : ℕ) → firstWord (partitionAt map b) b ≡ firstWord (partitionAt map a) a
+        → answerTo prims map (Read b) (after prims map l₂ (s .result .machine)) ≡ Done shown → shown ≡ usedValue map a value
+    reads-last l₂ spared =
+        let k = lasting-stays l₂ spared in
+        read-lasts a (al .below) (al .direct) (al .notDigest) (m₂ l₂ k) (still-right l₂ k) value v (still-held l₂ k)

@@ -1,12 +1,12 @@
 -- "An answer is a code and a 64-bit value. The value is 0 unless stated."
 use Prim.Native.Nat.{ℕ}
 use Rattle.model.specs.declared.Answer.{Answer}
-use Rattle.model.specs.declared.Answer.the-variants.{Done, Cleared, Denied, DigestFailed, NotReady, LifeCycleFailed, WrongLength, UnknownTarget, InvalidConstants, StrokesUsed, NotInTable, TokenNotLocked, TokenDiffers}
+use Rattle.model.specs.declared.Answer.the-variants.{Done, NotBlank, Denied, DigestFailed, NotReady, LifeCycleFailed, WrongLength, UnknownTarget, InvalidConstants, StrokesUsed, NotInTable, TokenNotLocked, TokenDiffers}
 
 -- the table of codes; 7 is given for two reasons, `NotReady` and `LifeCycleFailed`
 abbrev pub codeOf : Answer → ℕ
 codeOf (Done value) = 0x00
-codeOf (Cleared cell) = 0x04
+codeOf (NotBlank cell) = 0x04
 codeOf Denied = 0x05
 codeOf (DigestFailed partition) = 0x06
 codeOf NotReady = 0x07
@@ -22,7 +22,7 @@ codeOf TokenDiffers = 0x23
 -- stated: what is done, "value: partition" of a 6, and the value of a power-up that found no usable life cycle; a 4 does not tell its cell
 abbrev pub valueOf : Answer → ℕ
 valueOf (Done value) = value
-valueOf (Cleared cell) = 0
+valueOf (NotBlank cell) = 0
 valueOf Denied = 0
 valueOf (DigestFailed partition) = partition
 valueOf NotReady = 0

@@ -1,10 +1,12 @@
--- Beyond demand 3, in the same style: what a write stored is what is ever read, a digest is never written in part, the device code is final, the life
--- cycle only goes forward, and what only a power-up or a transition changes.
-use Prim.Native.Nat.{ℕ, suc, _%_, _^_, _≤_, _<_}
+-- Beyond demand 3, in the same style: nothing is burnt twice, what a write stored is what is ever read, a digest is never written in part, the device code
+-- is final, the life cycle only goes forward, and what only a power-up or a transition changes.
+use Prim.Native.Nat.{ℕ, suc, _+_, _/_, _%_, _^_, _≤_, _<_}
 use mathlib.Core.Path.{_≡_}
 use mathlib.Core.Bool.{true}
 use mathlib.Core.List.{List, [], _∷_, _++_}
-use Rattle.partitions.specs.Map.{Map, rightsOf, numberAt, partition, partitionAt, inDigest, firstWord}
+use lib.ListN.{getD}
+use Rattle.words.specs.Words.{numberOf, partAt}
+use Rattle.partitions.specs.Map.{Map, rightsOf, numberAt, partition, partitionAt, limit, inDigest, firstWord, wordCount}
 use Rattle.life_cycle.specs.declared.LifeCycle.{LifeCycle}
 use Rattle.life_cycle.specs.declared.LifeCycle.the-variants.{Valid}
 use Rattle.life_cycle.specs.declared.Token.{Token}
@@ -14,11 +16,12 @@ use Rattle.model.specs.declared.Answer.{Answer}
 use Rattle.model.specs.declared.Answer.the-variants.{Done}
 use Rattle.model.specs.declared.Command.{Command}
 use Rattle.model.specs.declared.Command.the-variants.{Read, Write, FrontRead, Digest, PowerUp}
+use Rattle.model.specs.Answers.{codeOf}
 use Rattle.model.specs.Lent.{Machine, Primitives}
 use Rattle.model.specs.Commands.{granule, storedDigest}
 use Rattle.model.specs.PowerUp.{lifeCycleIn}
 use Rattle.model.specs.Step.{step, after, machineAfter, answerTo}
-use Rattle.model.specs.Terms.{Right, Digested, Spared, Allowed, usedValue, quiet}
+use Rattle.model.specs.Terms.{Right, Digested, storedWords, Spared, Allowed, usedValue, quiet}
 use Rattle.model.specs.Demand3.{Ready}
 
 -- the course of a life cycle: it stays, spends a stroke, or spends a stroke and takes an entry of the table
@@ -27,6 +30,11 @@ pub data Course (x : LifeCycle) : LifeCycle → Type 0 where
   spends : {state count : ℕ} → Course x (Valid state count) → Course x (Valid state (suc count))
   moves : {state count target : ℕ} {token : Token} → Course x (Valid state count) → transition state target ≡ entry.Allowed token
       → Course x (Valid target (suc count))
+
+-- the target granule of a direct access write, or of a digest command: its first word, and how many there are
+pub data Targets (map : Map) : Command → ℕ → ℕ → Type 0 where
+  written : {a value : ℕ} → Targets map (Write a value) (firstWord (partitionAt map a) a) (wordCount (partitionAt map a) a)
+  digested : {a : ℕ} → Targets map (Digest a) (partitionAt map a .digest / 2) 4
 
 -- the command puts a number of 64 bits in the digest of partition n, whole: a write of it there, or a digest command that answers it; and it answers 0
 pub data Puts (map : Map) (n digest : ℕ) : Command → Answer → Type 0 where
@@ -45,14 +53,29 @@ module _ (prims : Primitives) (map : Map) where
         → Puts map n digest x (answerTo prims map x (after prims map l₁ m)) → Source m l n digest
 
   pub record Beyond : Type 0 where
+    -- nothing is burnt twice. A direct access write or digest command that answers 0, wherever in a list, found each word of its target granule zero;
+    pub blanks : (m : Machine) → Right map m → (l : List Command) (x : Command) (at n : ℕ) → Targets map x at n
+        → let m₁ = after prims map l m in
+        codeOf (answerTo prims map x m₁) ≡ 0x00 → (j : ℕ) → at ≤ j → j < at + n → getD (m₁ .lent .cells) j 0 ≡ 0
+    -- whatever it answers, it changes no word that is not zero;
+    pub burns : (m : Machine) (l : List Command) (x : Command) (at n : ℕ) → Targets map x at n
+        → let m₁ = after prims map l m in
+        (j : ℕ) → (getD (m₁ .lent .cells) j 0 ≡ 0 → ⊥) → getD (machineAfter prims map x m₁ .lent .cells) j 0 ≡ getD (m₁ .lent .cells) j 0
+    -- and a granule that direct access reaches and that is not blank never changes, whatever follows
+    pub granules : (m : Machine) (a : ℕ) → a < limit map → rightsOf (partitionAt map a .kind) .direct ≡ true → (l₁ l₂ : List Command)
+        → let p = partitionAt map a in
+        (granule p (after prims map l₁ m .lent .cells) a ≡ 0 → ⊥)
+        → partAt (after prims map (l₁ ++ l₂) m .lent .cells) (firstWord p a) (wordCount p a)
+        ≡ partAt (after prims map l₁ m .lent .cells) (firstWord p a) (wordCount p a)
     -- what a write that the rules allowed has stored is what is ever read there: whatever follows, power-ups and transitions too, each read of its
-    -- granule that answers 0 answers the data used, while no other write to the granule answers 0
+    -- granule that answers 0 answers the data used. Only where the stored form is zero may the granule be written again: there, while no other write
+    -- to it answers 0.
     pub lasting : (m : Machine) → Right map m → (l₀ l₁ : List Command) → Ready prims map m l₀ l₁ → (a value : ℕ) → value < 2 ^ 64
         → let m₀ = after prims map l₀ m in
         let m₁ = after prims map l₁ (machineAfter prims map PowerUp m₀) in
         let s = step prims map (Write a value) m₁ in
         Allowed prims map (m .lent .constants) (m₀ .lent .cells) (m₁ .lent .cells) a value
-        → (l₂ : List Command) → Spared prims map a l₂ (s .result .machine)
+        → (l₂ : List Command) → (numberOf (storedWords prims map (m .lent .constants) a value) ≡ 0 → Spared prims map a l₂ (s .result .machine))
         → (b shown : ℕ) → firstWord (partitionAt map b) b ≡ firstWord (partitionAt map a) a
         → answerTo prims map (Read b) (after prims map l₂ (s .result .machine)) ≡ Done shown → shown ≡ usedValue map a value
     -- a digest is never written in part: after any list it is whole the one that was there before, or the one that a single command of the list put there

@@ -1,4 +1,4 @@
--- The 14 cases of document 01 and those of request Two in one table, over Map 1, for any keys, digest constants, cipher and digest.
+-- The 14 cases of document 01 and those of requests Two and Three in one table, over Map 1, for any keys, digest constants, cipher and digest.
 use Prim.Native.Nat.{ℕ, _+_, _-_, _/_}
 use mathlib.Core.Path.{_≡_}
 use mathlib.Core.List.{List, [], _∷_, _++_, map}
@@ -32,7 +32,7 @@ spent = replicate 404 0 ++ replicate 24 3 ++ replicate 20 0
 abbrev pub case : List Command → List (ℕ × ℕ) → Case
 case commands expected = record { cells = blank; commands = commands; expected = expected; left = none }
 
--- The cases of document 01, case 7 as request Two has it; the hashed RAW token of the cases is 7.
+-- The cases of document 01, case 7 as request Two has it, case 4 as request Three has it; the hashed RAW token of the cases is 7.
 abbrev pub paper : List Case
 paper =
     -- 1. Blank power-up: 0, value 0.
@@ -41,8 +41,8 @@ paper =
     ∷ case (PowerUp ∷ Read 0x327 ∷ Read 0x328 ∷ Read 0x37F ∷ Read 0x380 ∷ []) ((0x00, 0) ∷ (0x00, 0) ∷ (0x05, 0) ∷ (0x05, 0) ∷ (0x05, 0) ∷ [])
     -- 3. Write at 3 acts at 0.
     ∷ case (PowerUp ∷ Write 3 0x55 ∷ Read 0 ∷ []) ((0x00, 0) ∷ (0x00, 0) ∷ (0x00, 0x55) ∷ [])
-    -- 4. At 0: 0x0F, then 0xF0 gives 4; then 0xFF gives 0.
-    ∷ case (PowerUp ∷ Write 0 0x0F ∷ Write 0 0xF0 ∷ Write 0 0xFF ∷ []) ((0x00, 0) ∷ (0x00, 0) ∷ (0x04, 0) ∷ (0x00, 0) ∷ [])
+    -- 4. At 0: 0x0F, then 0xF0 gives 4; then 0xFF "also gives 4".
+    ∷ case (PowerUp ∷ Write 0 0x0F ∷ Write 0 0xF0 ∷ Write 0 0xFF ∷ []) ((0x00, 0) ∷ (0x00, 0) ∷ (0x04, 0) ∷ (0x04, 0) ∷ [])
     -- 5. Write at 0x248: 5.
     ∷ case (PowerUp ∷ Write 0x248 1 ∷ []) ((0x00, 0) ∷ (0x05, 0) ∷ [])
     -- 6. Digest at 0x000 or 0x204: 5.
@@ -106,8 +106,8 @@ module _ (s : ℕ) where
         expected = (0x00, 0) ∷ (0x00, 0) ∷ (0x00, number) ∷ (0x00, number) ∷ (0x00, number) ∷ (0x00, number) ∷ (0x00, 0) ∷ [];
         left = none;
       }
-      -- One half is not written after the other: the second write has a 0 where the first has set a bit.
-      ∷ case (PowerUp ∷ Write (s + 0xF8) 1 ∷ Write (s + 0xFC) 0x100000000 ∷ []) ((0x00, 0) ∷ (0x00, 0) ∷ (0x04, 0) ∷ [])
+      -- One half is not written after the other, nor both (request Three).
+      ∷ case (PowerUp ∷ Write (s + 0xF8) 1 ∷ Write (s + 0xFC) 0x100000000 ∷ Write (s + 0xF8) 0x100000001 ∷ []) ((0x00, 0) ∷ (0x00, 0) ∷ (0x04, 0) ∷ (0x04, 0) ∷ [])
       -- A digest whose low half is zero locks like any other.
       ∷ case (PowerUp ∷ Write (s + 0xF8) 0x100000000 ∷ PowerUp ∷ Write (s + 0xF7) 1 ∷ Write (s + 0xF8) 0x100000001 ∷ [])
       ((0x00, 0) ∷ (0x00, 0) ∷ (0x00, 0) ∷ (0x05, 0) ∷ (0x05, 0) ∷ [])
@@ -119,8 +119,26 @@ hardware digest =
     case (PowerUp ∷ Digest 0x200 ∷ Read 0x247 ∷ Read 0x248 ∷ Read 0x24C ∷ [])
     ((0x00, 0) ∷ (0x00, digest) ∷ (0x00, 0) ∷ (0x00, digest) ∷ (0x00, digest) ∷ [])
 
+-- Request Three, no second burn, in the granule of 4 bytes at s.
+module _ (s : ℕ) where
+  abbrev pub secondBurn : List Case
+  secondBurn =
+      -- The same value again, one that clears no bit, and zero: 4, and no cell changes; nor after a power-up.
+      record {
+        cells = blank;
+        commands = PowerUp ∷ Write s 0x0F ∷ Write s 0x0F ∷ Write s 0xFF ∷ Write s 0 ∷ PowerUp ∷ Write s 0xFF ∷ [];
+        expected = (0x00, 0) ∷ (0x00, 0) ∷ (0x04, 0) ∷ (0x04, 0) ∷ (0x04, 0) ∷ (0x00, 0) ∷ (0x04, 0) ∷ [];
+        left = some (holding (s / 2) (0x0F ∷ []));
+      }
+      -- Its other word is blank, and does not take a value either; the next granule does.
+      ∷ case (PowerUp ∷ Write s 0x10000 ∷ Write s 0x10001 ∷ Write (s + 4) 1 ∷ []) ((0x00, 0) ∷ (0x00, 0) ∷ (0x04, 0) ∷ (0x00, 0) ∷ [])
+      -- A zero in a blank granule answers 0 and changes nothing, so that a value can follow.
+      ∷ record { cells = blank; commands = PowerUp ∷ Write s 0 ∷ Write s 0 ∷ []; expected = (0x00, 0) ∷ (0x00, 0) ∷ (0x00, 0) ∷ []; left = some blank }
+      ∷ case (PowerUp ∷ Write s 0 ∷ Write s 5 ∷ Read s ∷ []) ((0x00, 0) ∷ (0x00, 0) ∷ (0x00, 0) ∷ (0x00, 5) ∷ [])
+      ∷ []
+
 unfoldable pub table : ℕ → List Case
-table digest = paper ++ bothSides 0x000 ++ bothSides 0x100 ++ hardware digest ∷ []
+table digest = paper ++ bothSides 0x000 ++ bothSides 0x100 ++ (hardware digest ∷ []) ++ secondBurn 0x000 ++ secondBurn 0x200
 
 module _ (prims : Primitives) (keys : ℕ → ℕ) where
   -- any keys and digest constants; each C and A is 1, each D and B 3; the hashed RAW token is 7

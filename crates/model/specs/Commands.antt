@@ -4,6 +4,8 @@ use mathlib.Core.Bool.{Bool, not, _&&_}
 use mathlib.Core.List.{List}
 use lib.Dec.{eqb, leb, ltb}
 use Rattle.basics.specs.Choice.{if_then_else_}
+use Rattle.words.specs.declared.Rule.{Rule}
+use Rattle.words.specs.declared.Rule.the-variants.{KeepBits, BlankOnly}
 use Rattle.words.specs.Words.{numberOf, wordsOf, partAt}
 use Rattle.partitions.specs.declared.Kind.{Kind}
 use Rattle.partitions.specs.declared.Kind.the-variants as kind
@@ -22,6 +24,14 @@ use Rattle.model.specs.declared.Command.the-variants.{Read, Write, Front
 use Rattle.model.specs.Session.{isReady, sensedLocked, readLocked}
 use Rattle.model.specs.Lent.{Machine, Primitives, keyOf, digestStart, digestFinal, rawToken}
 use Rattle.model.specs.Acts.{stay, lock, halt, die, Act, say, program, compare, refuse}
+
+-- "A direct access write, or a digest command, is now refused with 4 if any word of its target granule is nonzero, whatever the value. LIFE_CYCLE
+-- words keep the old rule." (request Three)
+abbrev pub directRule : Rule
+directRule = BlankOnly
+
+abbrev pub lifeCycleRule : Rule
+lifeCycleRule = KeepBits
 
 -- "the value is the granule's, a 4-byte one in the low half": of an address, in the cells or in the copy
 unfoldable pub granule : Partition → List ℕ → ℕ → ℕ
@@ -91,7 +101,7 @@ module _ (prims : Primitives) (map : Map) (m : Machine) where
       else if not (rightsOf (p .kind) .direct) then refuse Denied
       else if rightsOf (p .kind) .hardware && inDigest p a then refuse Denied
       else if sensedLocked session (numberAt map a) then refuse Denied
-      else program (firstWord p a) (wordsOf (wordCount p a) (scrambled prims constants p value)) stay (say (Done 0) stay)
+      else program directRule (firstWord p a) (wordsOf (wordCount p a) (scrambled prims constants p value)) stay (say (Done 0) stay)
 
   -- "5 if the address is 0x380 or more or in LIFE_CYCLE; for data, not digests, also if the partition is read-locked or is secret with a
   -- nonzero sensed digest. Digests are always readable, plain. .. Reads look at cells"
@@ -115,7 +125,7 @@ module _ (prims : Primitives) (map : Map) (m : Machine) where
       else if not (rightsOf (p .kind) .hardware) then refuse Denied
       else if not (eqb a (p .start)) then refuse Denied
       else if sensedLocked session (numberAt map a) then refuse Denied
-      else program (p .digest / 2) (wordsOf 4 digest) stay (say (Done digest) stay)
+      else program directRule (p .digest / 2) (wordsOf 4 digest) stay (say (Done digest) stay)
 
   -- "5 unless 0 or 1. Lasts until power-up; locking again answers 0." (0 and 1 are the partitions with a read lock)
   unfoldable pub readLockAct : ℕ → Act
@@ -132,7 +142,7 @@ module _ (prims : Primitives) (map : Map) (m : Machine) where
 
   -- "then the 20 state words are programmed"
   unfoldable pub moveAct : ℕ → Act
-  moveAct target = program (stateAt map) (stateWords constants target) die (say (Done 0) halt)
+  moveAct target = program lifeCycleRule (stateAt map) (stateWords constants target) die (say (Done 0) halt)
 
   -- "0x22; 0x23": the token's partition is not sensed locked, the token differs
   unfoldable pub lockedTokenAct : Token → ℕ → ℕ → Act
@@ -160,7 +170,7 @@ module _ (prims : Primitives) (map : Map) (m : Machine) where
       if not (leb (session .state) 20 && leb (session .count) 24) then refuse NotReady
       else if not (leb target 20) then refuse UnknownTarget
       else if not (ltb (session .count) 24) then say StrokesUsed halt
-      else program (counterAt map) (counterWords constants (suc (session .count))) die (entryAct (transition (session .state) target) target given)
+      else program lifeCycleRule (counterAt map) (counterWords constants (suc (session .count))) die (entryAct (transition (session .state) target) target given)
 
   -- Power-up is no act (`obey`, in Step.antt): its clause is never asked.
   unfoldable pub commandAct : Command → Act

@@ -15,7 +15,7 @@ use Rattle.model.specs.declared.Command.{Command}
 use Rattle.model.specs.declared.Command.the-variants.{Read, Write, FrontRead, Digest, ReadLock, Transition, PowerUp}
 use Rattle.model.specs.Answers.{codeOf}
 use Rattle.model.specs.Lent.{Machine, Primitives, rightLengths}
-use Rattle.model.specs.Commands.{scrambled, storedDigest}
+use Rattle.model.specs.Commands.{directRule, scrambled, storedDigest}
 use Rattle.model.specs.Step.{Step, step, machineAfter, answerTo}
 
 -- lent lengths right, constants valid and words of 16 bits; cells, copy and record are free
@@ -102,7 +102,7 @@ module _ (prims : Primitives) (map : Map) where
     pub direct : rightsOf (partitionAt map a .kind) .direct ≡ true
     pub notDigest : (rightsOf (partitionAt map a .kind) .hardware && inDigest (partitionAt map a) a) ≡ false
     pub unlocked : storedDigest (partitionAt map a) c₀ ≡ 0
-    pub keeps : programAnswer c (firstWord (partitionAt map a) a) (storedWords prims map constants a value) ≡ programmed.Done
+    pub blank : programAnswer directRule c (firstWord (partitionAt map a) a) (storedWords prims map constants a value) ≡ programmed.Done
 
   -- "It takes effect: it answers 0, its granule holds the data, scrambled where secret, and no other cell changes."
   pub record TakesEffect (m : Machine) (a value : ℕ) (s : Step) : Type 0 where

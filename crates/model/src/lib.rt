@@ -27,10 +27,10 @@ pub struct Session {
     pub count: u8,
 }
 
-// What a command answers. `Cleared` names the lowest cell that refused, `DigestFailed` the partition.
+// What a command answers. `NotBlank` names the lowest cell that refused, `DigestFailed` the partition.
 pub enum Answer {
     Done(u64),
-    Cleared(usize),
+    NotBlank(usize),
     Denied,
     DigestFailed(usize),
     NotReady,
@@ -101,7 +101,7 @@ impl Answer {
     {
         match self {
             Answer::Done(_) => 0x00,
-            Answer::Cleared(_) => 0x04,
+            Answer::NotBlank(_) => 0x04,
             Answer::Denied => 0x05,
             Answer::DigestFailed(_) => 0x06,
             Answer::NotReady => 0x07,
@@ -122,7 +122,7 @@ impl Answer {
     {
         match self {
             Answer::Done(value) => value,
-            Answer::Cleared(_) => 0,
+            Answer::NotBlank(_) => 0,
             Answer::Denied => 0,
             Answer::DigestFailed(partition) => partition as u64,
             Answer::NotReady => 0,

@@ -7,6 +7,7 @@ use lib.Dec.{leb, ltb}
 use borrow.Author.Tests.{le-leb, lt-leb, lt-ltb, le-ltb}
 use Rattle.basics.specs.Choice.{if_then_else_}
 use Rattle.basics.proofs.Choice.{if-true, if-false}
+use Rattle.words.specs.declared.Rule.{Rule}
 use Rattle.words.specs.declared.Programmed.the-variants as programmed
 use Rattle.words.specs.Programming.{programAnswer, programCells}
 use Rattle.words.proofs.Programming.{by-answer, stored-refused}
@@ -15,13 +16,13 @@ use Rattle.life_cycle.specs.Words.{counterWords, stateWords}
 use Rattle.life_cycle.specs.Transitions.{transition}
 use Rattle.model.specs.declared.Session.{Session}
 use Rattle.model.specs.declared.Answer.{Answer}
-use Rattle.model.specs.declared.Answer.the-variants.{Done, Cleared, NotReady, UnknownTarget, StrokesUsed}
+use Rattle.model.specs.declared.Answer.the-variants.{Done, NotBlank, NotReady, UnknownTarget, StrokesUsed}
 use Rattle.model.specs.declared.Command.{Command}
 use Rattle.model.specs.declared.Command.the-variants.{Transition}
 use Rattle.model.specs.declared.Outcome.{Outcome}
 use Rattle.model.specs.Lent.{Machine}
 use Rattle.model.specs.Acts.{stay, halt, die, turned, Act, say, program, refuse}
-use Rattle.model.specs.Commands.{counterAt, stateAt, moveAct, entryAct, transitionAct, commandAct}
+use Rattle.model.specs.Commands.{lifeCycleRule, counterAt, stateAt, moveAct, entryAct, transitionAct, commandAct}
 use Rattle.chip.specs.declared.Judged.the-variants.{Accepted}
 use Rattle.chip.specs.Chip.{primitives, machineOf, resultOf, resultFor}
 use Rattle.chip.proofs.Acting.{admission, comesTo, said, program-done, program-refused, acted}
@@ -31,9 +32,9 @@ use Rattle.transition.specs.Permit.{permitOf, inert, dead, movedAs}
 use Rattle.transition.proofs.Tokens.{permittedAct, entering}
 
 -- programming takes its place and its words from the definition
-pub same-program : (cells : List ℕ) {at at′ : ℕ} {ws ws′ : List ℕ} → at ≡ at′ → ws ≡ ws′
-    → (programAnswer cells at ws ≡ programAnswer cells at′ ws′) × (programCells cells at ws ≡ programCells cells at′ ws′)
-same-program cells e f = (ap₂ (programAnswer cells) e f, ap₂ (programCells cells) e f)
+pub same-program : (rule : Rule) (cells : List ℕ) {at at′ : ℕ} {ws ws′ : List ℕ} → at ≡ at′ → ws ≡ ws′
+    → (programAnswer rule cells at ws ≡ programAnswer rule cells at′ ws′) × (programCells rule cells at ws ≡ programCells rule cells at′ ws′)
+same-program rule cells e f = (ap₂ (programAnswer rule cells) e f, ap₂ (programCells rule cells) e f)
 
 -- admitted, with a record whose state and count are in range
 pub record Known (m : Machine) : Type 0 where
@@ -51,23 +52,23 @@ module _ (copy k : List ℕ) (s : Session) where
   unfolding turned
   halted cells b = said (machineOf cells copy k s) b halt
 
-  died : (cells : List ℕ) (cell : ℕ) → comesTo (say (Cleared cell) die) (machineOf cells copy k s) ≡ resultOf cells copy k (dead s cell)
+  died : (cells : List ℕ) (cell : ℕ) → comesTo (say (NotBlank cell) die) (machineOf cells copy k s) ≡ resultOf cells copy k (dead s cell)
   unfolding turned
-  died cells cell = said (machineOf cells copy k s) (Cleared cell) die
+  died cells cell = said (machineOf cells copy k s) (NotBlank cell) die
 
   -- the state words are programmed
   moving : (cells : List ℕ) (m : Machine) (target : ℕ) → m .lent .constants ≡ k
       → let at = stateAt map1 in let ws = stateWords k target in
-      comesTo (moveAct primitives map1 m target) (machineOf cells copy k s) ≡ resultOf (programCells cells at ws) copy k (movedAs s (programAnswer cells at ws))
+      comesTo (moveAct primitives map1 m target) (machineOf cells copy k s) ≡ resultOf (programCells lifeCycleRule cells at ws) copy k (movedAs s (programAnswer lifeCycleRule cells at ws))
   unfolding moveAct
   moving cells m target c =
       let at = stateAt map1 in
       let ws = stateWords k target in
       let n = machineOf cells copy k s in
       rw c
-      (by-answer (programAnswer cells at ws)
-      (λ e. program-done n at ws die (say (Done 0) halt) e ∙ halted (programCells cells at ws) (Done 0) ∙ rw e)
-      (λ i e. program-refused n at ws die (say (Done 0) halt) i e ∙ died cells i ∙ rw (e, stored-refused cells ws at i e)))
+      (by-answer (programAnswer lifeCycleRule cells at ws)
+      (λ e. program-done n lifeCycleRule at ws die (say (Done 0) halt) e ∙ halted (programCells lifeCycleRule cells at ws) (Done 0) ∙ rw e)
+      (λ i e. program-refused n lifeCycleRule at ws die (say (Done 0) halt) i e ∙ died cells i ∙ rw (e, stored-refused lifeCycleRule cells ws at i e)))
 
 module _ (cells copy k : List ℕ) (s : Session) (target high low : ℕ) where
   abbrev x : Command
@@ -88,7 +89,7 @@ module _ (cells copy k : List ℕ) (s : Session) (target high low : ℕ) where
 
   -- what is left to decide once a stroke is left, and before that once the target is known and once the record is good
   abbrev spendAct : Act
-  spendAct = program at stroke die (entryAct primitives map1 m (transition (s .state) target) target given)
+  spendAct = program lifeCycleRule at stroke die (entryAct primitives map1 m (transition (s .state) target) target given)
 
   abbrev strokeAct : Act
   strokeAct = if not (ltb (s .count) 24) then say StrokesUsed halt else spendAct
@@ -124,26 +125,26 @@ module _ (cells copy k : List ℕ) (s : Session) (target high low : ℕ) where
     spending = aimed (q .known) (q .target-known) _ (if-false _ _ (ap not (lt-ltb _ _ (q .stroke-left))))
 
     -- the stroke is programmed, or a cell refuses
-    module _ (after : List ℕ) (c : after ≡ programCells cells at stroke) where
-      pub stroke-refused : (cell : ℕ) → programAnswer cells at stroke ≡ programmed.Refused cell
+    module _ (after : List ℕ) (c : after ≡ programCells lifeCycleRule cells at stroke) where
+      pub stroke-refused : (cell : ℕ) → programAnswer lifeCycleRule cells at stroke ≡ programmed.Refused cell
           → (o : Outcome) → o ≡ dead s cell → resultOf after copy k o ≡ resultFor x m
       stroke-refused cell e o f =
-          rw (f, c, stored-refused cells stroke at cell e) (sym (spending ∙ program-refused m at stroke die _ cell e ∙ died copy k s cells cell))
+          rw (f, c, stored-refused lifeCycleRule cells stroke at cell e) (sym (spending ∙ program-refused m lifeCycleRule at stroke die _ cell e ∙ died copy k s cells cell))
 
-      module _ (e : programAnswer cells at stroke ≡ programmed.Done) where
+      module _ (e : programAnswer lifeCycleRule cells at stroke ≡ programmed.Done) where
         asked : (p : Permit) → permitOf s copy k (transition (s .state) target) given ≡ p
             → resultFor x m ≡ comesTo (permittedAct p (moveAct primitives map1 m target)) (machineOf after copy k s)
         asked p f =
             rw (c, ← f)
             (spending
-            ∙ program-done m at stroke die _ e
-            ∙ entering m (machineOf (programCells cells at stroke) copy k s) target given (transition (s .state) target))
+            ∙ program-done m lifeCycleRule at stroke die _ e
+            ∙ entering m (machineOf (programCells lifeCycleRule cells at stroke) copy k s) target given (transition (s .state) target))
 
         pub not-permitted : (b : Answer) → permitOf s copy k (transition (s .state) target) given ≡ Refused b → (o : Outcome) → o ≡ inert s b
             → resultOf after copy k o ≡ resultFor x m
         not-permitted b f o g = rw g (sym (asked (Refused b) f ∙ halted copy k s after b))
 
         pub moved : permitOf s copy k (transition (s .state) target) given ≡ Granted → (end : List ℕ) (o : Outcome)
-            → o ≡ movedAs s (programAnswer after (stateAt map1) (stateWords k target))
-            → end ≡ programCells after (stateAt map1) (stateWords k target) → resultOf end copy k o ≡ resultFor x m
+            → o ≡ movedAs s (programAnswer lifeCycleRule after (stateAt map1) (stateWords k target))
+            → end ≡ programCells lifeCycleRule after (stateAt map1) (stateWords k target) → resultOf end copy k o ≡ resultFor x m
         moved f end o g h = rw (g, h) (sym (asked Granted f ∙ moving copy k s after m target refl))

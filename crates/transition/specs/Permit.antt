@@ -16,7 +16,7 @@ use Rattle.model.specs.declared.Reason.the-variants.{BitCleared}
 use Rattle.model.specs.declared.Phase.the-variants.{Inert, Dead}
 use Rattle.model.specs.declared.Session.{Session}
 use Rattle.model.specs.declared.Answer.{Answer}
-use Rattle.model.specs.declared.Answer.the-variants.{Done, Cleared, NotInTable, TokenNotLocked, TokenDiffers}
+use Rattle.model.specs.declared.Answer.the-variants.{Done, NotBlank, NotInTable, TokenNotLocked, TokenDiffers}
 use Rattle.model.specs.declared.Outcome.{Outcome}
 use Rattle.model.specs.Session.{sensedLocked, inPhase}
 use Rattle.model.specs.Lent.{rawToken}
@@ -50,7 +50,7 @@ abbrev pub inert : Session → Answer → Outcome
 inert s answer = record { session = inPhase Inert s; answer = answer }
 
 abbrev pub dead : Session → ℕ → Outcome
-dead s cell = record { session = inPhase (Dead BitCleared) s; answer = Cleared cell }
+dead s cell = record { session = inPhase (Dead BitCleared) s; answer = NotBlank cell }
 
 -- the outcome of programming the state words
 abbrev pub movedAs : Session → Programmed → Outcome

@@ -14,6 +14,7 @@ use partitions::LifeCyclePartition;
 use partitions::Secret0Partition;
 use partitions::Secret2Partition;
 use words::Programmed;
+use words::Rule;
 ghost use mathlib.Core.Path.{_≡_};
 ghost use Prim.Native.Nat.{suc, _+_, _*_, _/_, _^_, _<_};
 ghost use lib.Dec.{eqb};
@@ -24,7 +25,7 @@ ghost use Rattle.life_cycle.specs.Words.{counterWords, stateWords};
 ghost use Rattle.life_cycle.specs.Transitions.{transition};
 ghost use Rattle.model.specs.declared.Command.{Command};
 ghost use Rattle.model.specs.Session.{inPhase};
-ghost use Rattle.model.specs.Commands.{tokenKind, tokenOffset, counterAt, stateAt};
+ghost use Rattle.model.specs.Commands.{lifeCycleRule, tokenKind, tokenOffset, counterAt, stateAt};
 ghost use Rattle.chip.specs.Chip.{machineOf, resultOf, resultFor};
 ghost use Rattle.transition.specs.Permit.{comparedAs, lockedPermit, permitOf, inert, dead, movedAs};
 
@@ -72,27 +73,27 @@ fn dead(session: Session, cell: usize) -> Outcome
 {
     Outcome {
         session: in_phase(session, Phase::Dead(Reason::BitCleared)),
-        answer: Answer::Cleared(cell),
+        answer: Answer::NotBlank(cell),
     }
 }
 
 // Programs the counter words of one stroke more.
 fn spend(cells: &mut [u16], constants: &[u16], count: u8) -> Programmed
     requires { ⌜ count < 24 ⌝ }
-    ensures answer { λ r. ⌜ r ≡ programAnswer (now (cells .entry)) (counterAt map1) (counterWords (now (constants .entry)) (suc count)) ⌝ }
-    ensures words { λ _. ⌜ now (cells .exit) ≡ programCells (now (cells .entry)) (counterAt map1) (counterWords (now (constants .entry)) (suc count)) ⌝ }
+    ensures answer { λ r. ⌜ r ≡ programAnswer lifeCycleRule (now (cells .entry)) (counterAt map1) (counterWords (now (constants .entry)) (suc count)) ⌝ }
+    ensures words { λ _. ⌜ now (cells .exit) ≡ programCells lifeCycleRule (now (cells .entry)) (counterAt map1) (counterWords (now (constants .entry)) (suc count)) ⌝ }
 {
     let words = life_cycle::counter_words(constants, count + 1);
-    words::program(cells, COUNTER, &words[..])
+    words::program(Rule::KeepBits, cells, COUNTER, &words[..])
 }
 
 // Programs the state words of the target.
 fn move_to(cells: &mut [u16], constants: &[u16], session: Session, target: u8) -> Outcome
-    ensures outcome { λ r. ⌜ r ≡ movedAs session (programAnswer (now (cells .entry)) (stateAt map1) (stateWords (now (constants .entry)) target)) ⌝ }
-    ensures words { λ _. ⌜ now (cells .exit) ≡ programCells (now (cells .entry)) (stateAt map1) (stateWords (now (constants .entry)) target) ⌝ }
+    ensures outcome { λ r. ⌜ r ≡ movedAs session (programAnswer lifeCycleRule (now (cells .entry)) (stateAt map1) (stateWords (now (constants .entry)) target)) ⌝ }
+    ensures words { λ _. ⌜ now (cells .exit) ≡ programCells lifeCycleRule (now (cells .entry)) (stateAt map1) (stateWords (now (constants .entry)) target) ⌝ }
 {
     let words = life_cycle::state_words(constants, target);
-    match words::program(cells, STATE, &words[..]) {
+    match words::program(Rule::KeepBits, cells, STATE, &words[..]) {
         Programmed::Done => inert(session, Answer::Done(0)),
         Programmed::Refused(cell) => dead(session, cell),
     }

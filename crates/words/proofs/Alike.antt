@@ -9,6 +9,7 @@ use lib.ListN.{length, getD, set, length-set}
 use lib.Seq.{sets, getD-set-same, getD-set-other, set-out}
 use borrow.Author.Tests.{eqb-true, eqb-false, ltb-true, ltb-false}
 use Rattle.basics.proofs.Choice.{by-cases}
+use Rattle.words.specs.declared.Rule.{Rule}
 use Rattle.words.specs.Programming.{programAnswer, programCells}
 use Rattle.words.proofs.Programming.{by-answer, stored-done, stored-refused}
 
@@ -34,8 +35,8 @@ sets-alike : {P : ℕ → Type 0} (vs c d : List ℕ) (i : ℕ) → length c ≡
 sets-alike [] c d i e h = h
 sets-alike (v ∷ vs) c d i e h = sets-alike vs (set c i v) (set d i v) (suc i) (rw (length-set c i v, length-set d i v) e) (set-alike c d i v e h)
 
-pub program-alike : {P : ℕ → Type 0} (vs c d : List ℕ) (i : ℕ) → length c ≡ length d → Same P c d → programAnswer c i vs ≡ programAnswer d i vs
-    → Same P (programCells c i vs) (programCells d i vs)
-program-alike vs c d i e h q =
-    by-answer (programAnswer c i vs) (λ t. rw (stored-done c vs i t, stored-done d vs i (sym q ∙ t)) (sets-alike vs c d i e h))
-    (λ n t. rw (stored-refused c vs i n t, stored-refused d vs i n (sym q ∙ t)) h)
+pub program-alike : {P : ℕ → Type 0} (rule : Rule) (vs c d : List ℕ) (i : ℕ) → length c ≡ length d → Same P c d
+    → programAnswer rule c i vs ≡ programAnswer rule d i vs → Same P (programCells rule c i vs) (programCells rule d i vs)
+program-alike rule vs c d i e h q =
+    by-answer (programAnswer rule c i vs) (λ t. rw (stored-done rule c vs i t, stored-done rule d vs i (sym q ∙ t)) (sets-alike vs c d i e h))
+    (λ n t. rw (stored-refused rule c vs i n t, stored-refused rule d vs i n (sym q ∙ t)) h)

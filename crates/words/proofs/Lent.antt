@@ -11,24 +11,26 @@ use lib.Seq.{sets, sets-eq, getD-take, getD-drop, drop-drop, drop-length, drop-c
 use borrow.Author.Tests.{ltb-true, ltb-false}
 use Rattle.basics.specs.Choice.{if_then_else_}
 use Rattle.basics.proofs.Choice.{by-cases}
+use Rattle.words.specs.declared.Rule.{Rule}
 use Rattle.words.specs.declared.Programmed.{Programmed}
 use Rattle.words.specs.declared.Programmed.the-variants.{Done, Refused}
 use Rattle.words.specs.Programming.{refuses, programAnswer, programCells}
 use Rattle.words.proofs.Parts.{sets-past}
-use Rattle.words.proofs.Programming.{answer-next, answer-stop, blank-passes, by-answer, refused-lowest, stored-done, stored-refused}
+use Rattle.words.proofs.Rules.{blank-passes}
+use Rattle.words.proofs.Programming.{answer-next, answer-stop, by-answer, refused-lowest, stored-done, stored-refused}
 
 -- ---- the loop over a part: one word more is tested
 
-pub tested-next : (ss vs : List ℕ) (i : ℕ) → i < length vs → refuses (getD ss i 0) (getD vs i 0) ≡ false
-    → programAnswer ss i (drop i vs) ≡ programAnswer ss (suc i) (drop (suc i) vs)
-tested-next ss vs i h e = rw (drop-cons vs i 0 h) (answer-next ss (drop (suc i) vs) i (getD vs i 0) e)
+pub tested-next : (rule : Rule) (ss vs : List ℕ) (i : ℕ) → i < length vs → refuses rule (getD ss i 0) (getD vs i 0) ≡ false
+    → programAnswer rule ss i (drop i vs) ≡ programAnswer rule ss (suc i) (drop (suc i) vs)
+tested-next rule ss vs i h e = rw (drop-cons vs i 0 h) (answer-next rule ss (drop (suc i) vs) i (getD vs i 0) e)
 
-pub tested-stop : (ss vs : List ℕ) (i : ℕ) → i < length vs → refuses (getD ss i 0) (getD vs i 0) ≡ true → programAnswer ss i (drop i vs) ≡ Refused i
-tested-stop ss vs i h e = rw (drop-cons vs i 0 h) (answer-stop ss (drop (suc i) vs) i (getD vs i 0) e)
+pub tested-stop : (rule : Rule) (ss vs : List ℕ) (i : ℕ) → i < length vs → refuses rule (getD ss i 0) (getD vs i 0) ≡ true → programAnswer rule ss i (drop i vs) ≡ Refused i
+tested-stop rule ss vs i h e = rw (drop-cons vs i 0 h) (answer-stop rule ss (drop (suc i) vs) i (getD vs i 0) e)
 
-pub tested-end : (ss vs : List ℕ) → programAnswer ss (length vs) (drop (length vs) vs) ≡ Done
+pub tested-end : (rule : Rule) (ss vs : List ℕ) → programAnswer rule ss (length vs) (drop (length vs) vs) ≡ Done
 unfolding programAnswer
-tested-end ss vs = rw (drop-length vs)
+tested-end rule ss vs = rw (drop-length vs)
 
 -- the whole part becomes the value
 pub sets-whole : (ss vs : List ℕ) → length ss ≡ length vs → sets ss 0 vs ≡ vs
@@ -39,19 +41,19 @@ sets-whole ss vs e =
 
 -- ---- a value that reaches past the last cell
 
-past-done : (vs c : List ℕ) (at : ℕ) → length c ≤ at → programAnswer c at vs ≡ Done
+past-done : (rule : Rule) (vs c : List ℕ) (at : ℕ) → length c ≤ at → programAnswer rule c at vs ≡ Done
 unfolding programAnswer
-past-done [] c at h = refl
-past-done (v ∷ vs) c at h =
-    answer-next c vs at v (rw (List·getD-eq-default c 0 {n = at} h) (blank-passes v)) ∙ past-done vs c (suc at) (omega arith)
+past-done rule [] c at h = refl
+past-done rule (v ∷ vs) c at h =
+    answer-next rule c vs at v (rw (List·getD-eq-default c 0 {n = at} h) (blank-passes rule v)) ∙ past-done rule vs c (suc at) (omega arith)
 
-pub past-cells : (c vs : List ℕ) (at : ℕ) → length c ≤ at → (Done ≡ programAnswer c at vs) × (c ≡ programCells c at vs)
-past-cells c vs at h = (sym (past-done vs c at h), sym (stored-done c vs at (past-done vs c at h) ∙ sets-past vs c at h))
+pub past-cells : (rule : Rule) (c vs : List ℕ) (at : ℕ) → length c ≤ at → (Done ≡ programAnswer rule c at vs) × (c ≡ programCells rule c at vs)
+past-cells rule c vs at h = (sym (past-done rule vs c at h), sym (stored-done rule c vs at (past-done rule vs c at h) ∙ sets-past vs c at h))
 
-front-answer : (xs ys c : List ℕ) (at : ℕ) → length c ≤ at + length xs → programAnswer c at (xs ++ ys) ≡ programAnswer c at xs
+front-answer : (rule : Rule) (xs ys c : List ℕ) (at : ℕ) → length c ≤ at + length xs → programAnswer rule c at (xs ++ ys) ≡ programAnswer rule c at xs
 unfolding programAnswer
-front-answer [] ys c at h = past-done ys c at (omega arith)
-front-answer (x ∷ xs) ys c at h = ap (λ (r : Programmed). if refuses (getD c at 0) x then Refused at else r) (front-answer xs ys c (suc at) (omega arith))
+front-answer rule [] ys c at h = past-done rule ys c at (omega arith)
+front-answer rule (x ∷ xs) ys c at h = ap (λ (r : Programmed). if refuses rule (getD c at 0) x then Refused at else r) (front-answer rule xs ys c (suc at) (omega arith))
 
 front-sets : (xs ys c : List ℕ) (at : ℕ) → length c ≤ at + length xs → sets c at (xs ++ ys) ≡ sets c at xs
 front-sets [] ys c at h = sets-past ys c at (omega arith)
@@ -69,17 +71,17 @@ unfolding if_then_else_
 counted-if true at x y = refl
 counted-if false at x y = refl
 
-part-answer : (vs c p : List ℕ) (at i : ℕ) → ((j : ℕ) → i ≤ j → j < i + length vs → getD c (at + j) 0 ≡ getD p j 0)
-    → programAnswer c (at + i) vs ≡ counted at (programAnswer p i vs)
+part-answer : (rule : Rule) (vs c p : List ℕ) (at i : ℕ) → ((j : ℕ) → i ≤ j → j < i + length vs → getD c (at + j) 0 ≡ getD p j 0)
+    → programAnswer rule c (at + i) vs ≡ counted at (programAnswer rule p i vs)
 unfolding programAnswer
-part-answer [] c p at i h = refl
-part-answer (v ∷ vs) c p at i h =
-    ap₂ (λ (x : ℕ) (r : Programmed). if refuses x v then Refused (at + i) else r) (h i (omega arith) (omega arith))
-    (ap (λ (n : ℕ). programAnswer c n vs) (sym (add-suc at i)) ∙ part-answer vs c p at (suc i) (λ j l u. h j (omega arith) (omega arith)))
-    ∙ sym (counted-if (refuses (getD p i 0) v) at (Refused i) (programAnswer p (suc i) vs))
+part-answer rule [] c p at i h = refl
+part-answer rule (v ∷ vs) c p at i h =
+    ap₂ (λ (x : ℕ) (r : Programmed). if refuses rule x v then Refused (at + i) else r) (h i (omega arith) (omega arith))
+    (ap (λ (n : ℕ). programAnswer rule c n vs) (sym (add-suc at i)) ∙ part-answer rule vs c p at (suc i) (λ j l u. h j (omega arith) (omega arith)))
+    ∙ sym (counted-if (refuses rule (getD p i 0) v) at (Refused i) (programAnswer rule p (suc i) vs))
 
 -- the n cells from `at` on are lent with the lowest n words of the value; n is short of the value only where the array ends
-module _ (c vs : List ℕ) (at n : ℕ) (inside : at + n ≤ length c) (some : n ≤ length vs) (all : n < length vs → length c ≤ at + n) where
+module _ (rule : Rule) (c vs : List ℕ) (at n : ℕ) (inside : at + n ≤ length c) (some : n ≤ length vs) (all : n < length vs → length c ≤ at + n) where
   abbrev part : List ℕ
   part = take n (drop at c)
 
@@ -98,40 +100,40 @@ module _ (c vs : List ℕ) (at n : ℕ) (inside : at + n ≤ length c) (some : n
       by-cases (ltb n (length vs)) (λ t. ap f (sym (take-append-drop n vs)) ∙ h (omega (arith, all (ltb-true _ _ t), value-length)))
       (λ t. ap f (sym (take-all n vs (ltb-false _ _ t))))
 
-  lent-answer : counted at (programAnswer part 0 value) ≡ programAnswer c at vs
+  lent-answer : counted at (programAnswer rule part 0 value) ≡ programAnswer rule c at vs
   lent-answer =
-      sym (part-answer value c part at 0 (λ j l u. sym (getD-take n (drop at c) j 0 (omega (arith, value-length)) ∙ getD-drop at c j 0)))
-      ∙ ap (λ (i : ℕ). programAnswer c i value) (add-zero at)
-      ∙ sym (left-out (programAnswer c at) (front-answer value (drop n vs) c at))
+      sym (part-answer rule value c part at 0 (λ j l u. sym (getD-take n (drop at c) j 0 (omega (arith, value-length)) ∙ getD-drop at c j 0)))
+      ∙ ap (λ (i : ℕ). programAnswer rule c i value) (add-zero at)
+      ∙ sym (left-out (programAnswer rule c at) (front-answer rule value (drop n vs) c at))
 
   -- the array once the part is handed back
   abbrev back : List ℕ → List ℕ
   back x = take at c ++ (x ++ drop n (drop at c))
 
-  done-cells : programAnswer part 0 value ≡ Done → back (programCells part 0 value) ≡ programCells c at vs
+  done-cells : programAnswer rule part 0 value ≡ Done → back (programCells rule part 0 value) ≡ programCells rule c at vs
   done-cells e =
-      ap back (stored-done part value 0 e ∙ sets-whole part value same-lengths)
+      ap back (stored-done rule part value 0 e ∙ sets-whole part value same-lengths)
       ∙ ap (λ (x : List ℕ). take at c ++ (value ++ x)) (drop-drop n at c ∙ ap (λ (k : ℕ). drop (at + k) c) (sym value-length))
       ∙ sym (append-assoc (take at c) value _)
       ∙ sym (sets-eq value c at (omega (arith, value-length)))
       ∙ sym (left-out (sets c at) (front-sets value (drop n vs) c at))
-      ∙ sym (stored-done c vs at (sym lent-answer ∙ ap (counted at) e))
+      ∙ sym (stored-done rule c vs at (sym lent-answer ∙ ap (counted at) e))
 
-  refused-cells : (i : ℕ) → programAnswer part 0 value ≡ Refused i → back (programCells part 0 value) ≡ programCells c at vs
+  refused-cells : (i : ℕ) → programAnswer rule part 0 value ≡ Refused i → back (programCells rule part 0 value) ≡ programCells rule c at vs
   refused-cells i e =
-      ap back (stored-refused part value 0 i e)
+      ap back (stored-refused rule part value 0 i e)
       ∙ ap (λ (x : List ℕ). take at c ++ x) (take-append-drop n (drop at c))
       ∙ take-append-drop at c
-      ∙ sym (stored-refused c vs at (at + i) (sym lent-answer ∙ ap (counted at) e))
+      ∙ sym (stored-refused rule c vs at (at + i) (sym lent-answer ∙ ap (counted at) e))
 
   -- as code meets them: the part of k cells has been programmed and handed back
   pub handed-back : (k : ℕ) → k ≡ n → {r : Programmed} {new : List ℕ}
-      → r ≡ programAnswer (take k (drop at c)) 0 value → new ≡ programCells (take k (drop at c)) 0 value
-      → (counted at r ≡ programAnswer c at vs) × (take at c ++ (new ++ drop k (drop at c)) ≡ programCells c at vs)
-  handed-back k e a b = rw (a, b, e) (lent-answer, by-answer (programAnswer part 0 value) done-cells refused-cells)
+      → r ≡ programAnswer rule (take k (drop at c)) 0 value → new ≡ programCells rule (take k (drop at c)) 0 value
+      → (counted at r ≡ programAnswer rule c at vs) × (take at c ++ (new ++ drop k (drop at c)) ≡ programCells rule c at vs)
+  handed-back k e a b = rw (a, b, e) (lent-answer, by-answer (programAnswer rule part 0 value) done-cells refused-cells)
 
   -- a refusing word lies within the part
-  pub refused-within : (k : ℕ) → k ≡ n → (i : ℕ) → programAnswer (take k (drop at c)) 0 value ≡ Refused i → i < n
+  pub refused-within : (k : ℕ) → k ≡ n → (i : ℕ) → programAnswer rule (take k (drop at c)) 0 value ≡ Refused i → i < n
   refused-within k e i a =
-      let l = refused-lowest value (take k (drop at c)) 0 i a in
+      let l = refused-lowest rule value (take k (drop at c)) 0 i a in
       omega (arith, l .place, l .inside, value-length)

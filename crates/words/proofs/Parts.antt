@@ -54,10 +54,13 @@ pub part-drop : (c : List ℕ) (from at n : ℕ) → partAt (drop from c) at n �
 unfolding partAt
 part-drop c from at n = sym (listed-shift (λ j. getD c j 0) (λ j. getD (drop from c) j 0) at from n (λ j. sym (getD-drop from c j 0)))
 
-pub zeros-past : (c : List ℕ) (at n : ℕ) → length c ≤ at → numberOf (partAt c at n) ≡ 0
+pub blank-part : (c : List ℕ) (at n : ℕ) → ((j : ℕ) → at ≤ j → j < at + n → getD c j 0 ≡ 0) → numberOf (partAt c at n) ≡ 0
 unfolding partAt listed numberOf
-zeros-past c at zero h = refl
-zeros-past c at (suc n) h = rw (List·getD-eq-default c 0 {n = at} h, zeros-past c (suc at) n (omega arith))
+blank-part c at zero h = refl
+blank-part c at (suc n) h = rw (h at (omega arith) (omega arith), blank-part c (suc at) n (λ j l u. h j (omega arith) (omega arith)))
+
+pub zeros-past : (c : List ℕ) (at n : ℕ) → length c ≤ at → numberOf (partAt c at n) ≡ 0
+zeros-past c at n h = blank-part c at n (λ j l u. List·getD-eq-default c 0 {n = j} (omega arith))
 
 number-past : (c : List ℕ) (at n : ℕ) → length c ≤ at → numberOf (take n (drop at c)) ≡ 0
 unfolding numberOf

@@ -3,7 +3,13 @@ ghost use mathlib.Core.Path.{_≡_};
 ghost use Prim.Native.Nat.{_≤_, min};
 ghost use lib.ListN.{length, take};
 ghost use Rattle.words.specs.Words.{numberOf, partAt, wordsOf};
-ghost use Rattle.words.specs.Programming.{programAnswer, programCells};
+ghost use Rattle.words.specs.Programming.{refuses, programAnswer, programCells};
+
+// A rule of refusal: a programmed bit must stay, or every word must be blank.
+pub enum Rule {
+    KeepBits,
+    BlankOnly,
+}
 
 // What programming answers: done, or the index of the lowest cell that refused.
 pub enum Programmed {
@@ -65,16 +71,24 @@ pub fn block_at(words: &[u16], at: usize) -> u64
     }
 }
 
+// Whether a stored word refuses a word of a value.
+fn refuses(rule: Rule, stored: u16, value: u16) -> bool
+    ensures { λ r. ⌜ r ≡ refuses rule stored value ⌝ }
+{
+    match rule {
+        Rule::KeepBits => stored | value != value,
+        Rule::BlankOnly => stored != 0,
+    }
+}
+
 // The lowest word of a part that refuses its word of the value.
-fn tested(part: &[u16], value: &[u16]) -> Programmed
+fn tested(rule: Rule, part: &[u16], value: &[u16]) -> Programmed
     requires { ⌜ length (now part) ≡ length (now value) ⌝ }
-    ensures { λ r. ⌜ r ≡ programAnswer (now (part .entry)) 0 (now (value .entry)) ⌝ }
+    ensures { λ r. ⌜ r ≡ programAnswer rule (now (part .entry)) 0 (now (value .entry)) ⌝ }
 {
     let mut i = 0;
     while i < part.len() {
-        let v = value[i];
-        let joined = part[i] | v;
-        if joined != v {
+        if refuses(rule, part[i], value[i]) {
             return Programmed::Refused(i);
         }
         i += 1;
@@ -95,12 +109,12 @@ fn store(part: &mut [u16], value: &[u16])
 }
 
 // Programs a part with a value of as many words: all are tested before one changes.
-fn program_part(part: &mut [u16], value: &[u16]) -> Programmed
+fn program_part(rule: Rule, part: &mut [u16], value: &[u16]) -> Programmed
     requires { ⌜ length (now part) ≡ length (now value) ⌝ }
-    ensures answer { λ r. ⌜ r ≡ programAnswer (now (part .entry)) 0 (now (value .entry)) ⌝ }
-    ensures words { λ _. ⌜ now (part .exit) ≡ programCells (now (part .entry)) 0 (now (value .entry)) ⌝ }
+    ensures answer { λ r. ⌜ r ≡ programAnswer rule (now (part .entry)) 0 (now (value .entry)) ⌝ }
+    ensures words { λ _. ⌜ now (part .exit) ≡ programCells rule (now (part .entry)) 0 (now (value .entry)) ⌝ }
 {
-    let answer = tested(&part[..], value);
+    let answer = tested(rule, &part[..], value);
     match answer {
         Programmed::Done => store(part, value),
         Programmed::Refused(_) => {}
@@ -114,17 +128,17 @@ fn least(a: usize, b: usize) -> usize
     if a < b { a } else { b }
 }
 
-// Programs the cells from `at` on with a value. Words of the value that would lie past the last cell are not there.
-pub fn program(cells: &mut [u16], at: usize, value: &[u16]) -> Programmed
-    ensures answer { λ r. ⌜ r ≡ programAnswer (now (cells .entry)) at (now (value .entry)) ⌝ }
-    ensures words { λ _. ⌜ now (cells .exit) ≡ programCells (now (cells .entry)) at (now (value .entry)) ⌝ }
+// Programs the cells from `at` on with a value, by a rule. Words of the value that would lie past the last cell are not there.
+pub fn program(rule: Rule, cells: &mut [u16], at: usize, value: &[u16]) -> Programmed
+    ensures answer { λ r. ⌜ r ≡ programAnswer rule (now (cells .entry)) at (now (value .entry)) ⌝ }
+    ensures words { λ _. ⌜ now (cells .exit) ≡ programCells rule (now (cells .entry)) at (now (value .entry)) ⌝ }
 {
     if cells.len() <= at {
         return Programmed::Done;
     }
     let n = least(cells.len() - at, value.len());
     let end = at + n;
-    match program_part(&mut cells[at..end], &value[..n]) {
+    match program_part(rule, &mut cells[at..end], &value[..n]) {
         Programmed::Done => Programmed::Done,
         Programmed::Refused(i) => Programmed::Refused(at + i),
     }

@@ -19,8 +19,8 @@ add-result c =
     let o = p .before .before .before .before in
     let part = take (o .args .n) (o .args .cells .now) in
     let i = c .before .i .given in
-    let inside = refused-inside part (o .args .value .now) (o .args .at) (i .0 .0) (sym (p .program .ensures .0) ∙ i .1) in
-    omega (arith, inside, length-take-le (o .args .n) (o .args .cells .now) (search needs), o .good .0 .0)
+    let inside = refused-inside (o .args .rule) part (o .args .value .now) (o .args .at) (i .0 .0) (sym (p .program .ensures .0) ∙ i .1) in
+    omega (arith, inside, length-take-le (o .args .n) (o .args .cells .now) (search needs), o .good .1 .0 .0)
 
 pub program-spec : {M : Type 1} → statement M
 program-spec =

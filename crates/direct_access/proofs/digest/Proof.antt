@@ -10,6 +10,7 @@ use Rattle.partitions.specs.declared.Partition.{Partition}
 use Rattle.model.specs.declared.Answer.the-variants.{Done}
 use Rattle.model.specs.Lent.{Machine}
 use Rattle.model.specs.Acts.{stay, say, program}
+use Rattle.model.specs.Commands.{directRule}
 use Rattle.chip.specs.Chip.{machineOf}
 use Rattle.chip.proofs.Reading.{data-digest}
 use Rattle.direct_access.specs.declared.Reached.the-variants.{At}
@@ -67,7 +68,7 @@ returns-3 c =
     let n = e .before .before .before in
     let v = digested d in
     burnt (digest-decided _ _) (at-place n) (sym (e .before .may-digest .ensures) ∙ not-false _ (e .if1 .left))
-    (ap₂ (λ (ws : List ℕ) (v : ℕ). program (found n .digest / 2) ws stay (say (Done v) stay)) (sym (t .split .ensures ∙ ap (wordsOf 4) v)) (sym v))
+    (ap₂ (λ (ws : List ℕ) (v : ℕ). program directRule (found n .digest / 2) ws stay (say (Done v) stay)) (sym (t .split .ensures ∙ ap (wordsOf 4) v)) (sym v))
     (q .program .ensures .1) (c .answer-of .ensures ∙ ap (λ (r : Programmed). programmedAnswer r (d .digest-of .result)) (q .program .ensures .0))
 
 pub digest-spec : {M : Type 1} → statement M

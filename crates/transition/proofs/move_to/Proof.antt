@@ -3,7 +3,7 @@ use mathlib.Core.Path.{_≡_, sym, ap, _∙_}
 use Rattle.words.specs.Programming.{programAnswer, programCells}
 use Rattle.life_cycle.specs.Words.{stateWords}
 use Rattle.partitions.specs.Map1.{map1}
-use Rattle.model.specs.Commands.{stateAt}
+use Rattle.model.specs.Commands.{lifeCycleRule, stateAt}
 use Rattle.chip.specs.Chip.{primitives}
 use Rattle.transition.specs.Permit.{movedAs}
 use Rattle.model.proofs.LifeCyclePlace.{state-place}
@@ -16,12 +16,12 @@ abbrev start : tie.After-program → tie.Start
 start q = q .before .before .before .before .before .before
 
 answered : (q : tie.After-program) → let o = start q .args in
-    (q .program .result ≡ programAnswer (o .cells .now) (stateAt map1) (stateWords (o .constants .now) (o .target)))
-    × (q .program .last .0 ≡ programCells (o .cells .now) (stateAt map1) (stateWords (o .constants .now) (o .target)))
+    (q .program .result ≡ programAnswer lifeCycleRule (o .cells .now) (stateAt map1) (stateWords (o .constants .now) (o .target)))
+    × (q .program .last .1 .0 ≡ programCells lifeCycleRule (o .cells .now) (stateAt map1) (stateWords (o .constants .now) (o .target)))
 answered q =
     let o = start q .args in
     let e = q .before .before .before .state-words .ensures in
-    let same = same-program (o .cells .now) (state-place primitives) e in
+    let same = same-program lifeCycleRule (o .cells .now) (state-place primitives) e in
     (q .program .ensures .0 ∙ same .0, q .program .ensures .1 ∙ same .1)
 
 returns : tie.Need-returns

@@ -2,6 +2,7 @@
 use mathlib.Core.Path.{ap, _∙_}
 use native.Mathlib.Numerals.{add-one}
 use Rattle.life_cycle.specs.Words.{counterWords}
+use Rattle.model.specs.Commands.{lifeCycleRule}
 use Rattle.model.proofs.LifeCyclePlace.{counter-place}
 use Rattle.transition.proofs.Moving.{same-program}
 use Rattle.chip.specs.Chip.{primitives}
@@ -15,7 +16,7 @@ returns c =
     let w = q .before .before .before in
     let o = w .before .before .before .args in
     let e = w .counter-words .ensures ∙ ap (counterWords (o .constants .now)) (add-one (o .count)) in
-    let same = same-program (o .cells .now) (counter-place primitives) e in
+    let same = same-program lifeCycleRule (o .cells .now) (counter-place primitives) e in
     (q .program .ensures .0 ∙ same .0, q .program .ensures .1 ∙ same .1)
 
 pub spend-spec : {M : Type 1} → statement M

@@ -8,7 +8,7 @@ use Rattle.partitions.specs.Map1.{map1}
 use Rattle.life_cycle.specs.Words.{counterWords}
 use Rattle.model.specs.declared.Command.the-variants.{Transition}
 use Rattle.model.specs.Lent.{Machine}
-use Rattle.model.specs.Commands.{counterAt}
+use Rattle.model.specs.Commands.{lifeCycleRule, counterAt}
 use Rattle.chip.specs.declared.Judged.the-variants.{Accepted}
 use Rattle.chip.specs.Chip.{machineOf}
 use Rattle.chip.proofs.Acting.{admission, refused}
@@ -39,7 +39,7 @@ ready q =
     record { known = known (e .before); target-known = e .if2 .left; stroke-left = b .if3 .left }
 
 done : (w : tie.After-permitted) → let o = spent (w .before .before .before .before .before) .args in
-    programAnswer (o .cells .now) (counterAt map1) (counterWords (o .constants .now) (suc (o .session .count))) ≡ Done
+    programAnswer lifeCycleRule (o .cells .now) (counterAt map1) (counterWords (o .constants .now) (suc (o .session .count))) ≡ Done
 done w = sym (w .before .before .before .before .before .spend .ensures .0) ∙ w .before .enum-told2 .given .1
 
 returns : tie.Need-returns

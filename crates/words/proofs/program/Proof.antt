@@ -5,6 +5,7 @@ use Prim.Native.Nat.{ℕ, _+_, _-_, _<_}
 use native.Mathlib.Omega.{arith}
 use lib.ListN.{take, drop}
 use lib.Seq.{length-take-le}
+use Rattle.words.specs.declared.Rule.{Rule}
 use Rattle.words.specs.declared.Programmed.the-variants.{Refused}
 use Rattle.words.specs.Programming.{programAnswer, programCells}
 use Rattle.words.proofs.Lent.{past-cells, same-lengths, handed-back, refused-within, counted}
@@ -13,7 +14,7 @@ use Rattle.words.proofs.program.Statement.{statement}
 use Rattle.words.proofs.program.Tie as tie
 
 returns : tie.Need-returns
-returns c = let o = c .before .before .before .args in past-cells (o .cells .now) (o .value .now) (o .at) (c .if1 .taken)
+returns c = let o = c .before .before .before .args in past-cells (o .rule) (o .cells .now) (o .value .now) (o .at) (c .if1 .taken)
 
 slice-aggregate-program-part : tie.Need-slice-aggregate-program-part
 slice-aggregate-program-part c =
@@ -25,12 +26,15 @@ program-part-requires c κs =
     let at = o .args .at in
     let n = c .before .before .least .result in
     let e : at + n - at ≡ n = omega arith in
-    rw e (same-lengths (o .args .cells .now) (o .args .value .now) at n (omega arith) (omega arith) (λ l. omega arith))
+    rw e (same-lengths (o .args .rule) (o .args .cells .now) (o .args .value .now) at n (omega arith) (omega arith) (λ l. omega arith))
 
 -- what the call of `program_part` leaves
 module _ (t : tie.After-program-part) where
   abbrev start : tie.Start
   start = t .before .before .before .before .before .before .before
+
+  abbrev rule : Rule
+  rule = start .args .rule
 
   abbrev cells : List ℕ
   cells = start .args .cells .now
@@ -47,19 +51,19 @@ module _ (t : tie.After-program-part) where
   size : at + count - at ≡ count
   size = omega arith
 
-  whole : (counted at (t .program-part .result) ≡ programAnswer cells at value)
-      × (take at cells ++ (t .program-part .last .0 ++ drop (at + count - at) (drop at cells)) ≡ programCells cells at value)
+  whole : (counted at (t .program-part .result) ≡ programAnswer rule cells at value)
+      × (take at cells ++ (t .program-part .last .1 .0 ++ drop (at + count - at) (drop at cells)) ≡ programCells rule cells at value)
   whole =
       let e = t .program-part .ensures in
-      handed-back cells value at count (omega arith) (omega arith) (λ l. omega arith) _ size (e .0) (e .1)
+      handed-back rule cells value at count (omega arith) (omega arith) (λ l. omega arith) _ size (e .0) (e .1)
 
   within : (i : ℕ) → t .program-part .result ≡ Refused i → i < count
   within i e =
       let a = sym (t .program-part .ensures .0) ∙ e in
-      refused-within cells value at count (omega arith) (omega arith) (λ l. omega arith) _ size i a
+      refused-within rule cells value at count (omega arith) (omega arith) (λ l. omega arith) _ size i a
 
-add-t18 : tie.Need-add-t18
-add-t18 c =
+add-t19 : tie.Need-add-t19
+add-t19 c =
     let t = c .before .before .before .before .before in
     omega (arith, within t (c .before .i .given .0 .0) (c .before .i .given .1))
 
@@ -89,7 +93,7 @@ program-spec =
     program-part-requires
     (λ c. search needs)
     (λ c. search needs)
-    add-t18
+    add-t19
     (λ c. search needs)
     returns-2
     (λ c. search needs)

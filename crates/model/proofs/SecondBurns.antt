@@ -1,0 +1,152 @@
+-- Nothing is burnt twice. The idea: what direct access programs is a whole granule that was blank; so a word that is not zero was not in it, and two
+-- granules that share a word are one.
+use mathlib.Core.Path.{_≡_, refl, sym, ap, _∙_}
+use mathlib.Core.Bool.{true}
+use mathlib.Core.List.{List, [], _∷_, _++_}
+use Prim.Native.Nat.{ℕ, _+_, _*_, _≤_, _<_}
+use native.Mathlib.Omega.{arith}
+use lib.ListN.{length, getD}
+use borrow.Author.Tests.{eqb-false}
+use Rattle.words.specs.declared.Rule.{Rule}
+use Rattle.words.specs.declared.Programmed.the-variants as programmed
+use Rattle.words.specs.Words.{numberOf, partAt}
+use Rattle.words.specs.Programming.{programAnswer}
+use Rattle.words.proofs.Parts.{blank-part, part-same}
+use Rattle.words.proofs.Programming.{program-elsewhere, done-blank}
+use Rattle.partitions.specs.Map.{Map, rightsOf, partitionAt, limit, firstWord, wordCount}
+use Rattle.partitions.specs.Fitness.{fit}
+use Rattle.partitions.proofs.Granules.{word-number, shared-word}
+use Rattle.model.specs.declared.Answer.{Answer}
+use Rattle.model.specs.declared.Command.{Command}
+use Rattle.model.specs.declared.Command.the-variants.{Read, Write, FrontRead, Digest, ReadLock, Transition, PowerUp}
+use Rattle.model.specs.Answers.{codeOf}
+use Rattle.model.specs.Lent.{Machine, Primitives}
+use Rattle.model.specs.Commands.{granule}
+use Rattle.model.specs.Step.{Step, unchanged, performed, act, powerUp, after, machineAfter, answerTo}
+use Rattle.model.specs.Terms.{Right, staysReady}
+use Rattle.model.specs.Beyond.{Targets, written, digested}
+use Rattle.model.proofs.Acts.{Burnt, unburnt, burnt, perform-once}
+use Rattle.model.proofs.Targets.{Struck, target-once}
+use Rattle.model.proofs.Frame.{Aim, aimless-word}
+use Rattle.model.proofs.Steps.{after-append, outcome, step-all, after-right}
+use Rattle.model.proofs.Ready.{step-act}
+
+module _ (prims : Primitives) (map : Map) (F : fit map ≡ true) where
+  -- ---- one write or digest command
+
+  module _ {x : Command} {at n : ℕ} (target : Targets map x at n) (m : Machine) where
+    abbrev cells : List ℕ
+    cells = m .lent .cells
+
+    abbrev Result : Type 0
+    Result = Burnt (Struck map at n) cells (outcome prims map x m)
+
+    result : Result
+    result = perform-once (target-once prims map F m target) (m .lent .copy) cells
+
+    -- answered 0, it found its target blank
+    target-blank : codeOf (outcome prims map x m .answer) ≡ 0x00 → (j : ℕ) → at ≤ j → j < at + n → getD cells j 0 ≡ 0
+    target-blank e j lo hi = go result
+      where
+        go : Result → getD cells j 0 ≡ 0
+        go (unburnt _ f) = absurd (eqb-false _ _ f e)
+        go (burnt w k f _) = done-blank _ cells _ j (rw (w .blank) at k) (rw (w .place) lo) (rw (w .place, w .size) hi)
+
+    -- a word stays that is not zero
+    word-stays : (j : ℕ) → (getD cells j 0 ≡ 0 → ⊥) → getD (outcome prims map x m .cells) j 0 ≡ getD cells j 0
+    word-stays j h = go result
+      where
+        go : Result → getD (outcome prims map x m .cells) j 0 ≡ getD cells j 0
+        go (unburnt e _) = rw e
+        go (burnt w k f _) = rw f (program-elsewhere _ cells _ _ j (λ lo hi. h (done-blank _ cells _ j (rw (w .blank) at k) lo hi)))
+
+    -- and so does each word of a granule that is not blank: were one of them programmed, the granule would be the target
+    granule-stays : (a : ℕ) → a < limit map → let p = partitionAt map a in
+        (granule p cells a ≡ 0 → ⊥) → (j : ℕ) → firstWord p a ≤ j → j < firstWord p a + wordCount p a
+        → getD (outcome prims map x m .cells) j 0 ≡ getD cells j 0
+    unfolding granule
+    granule-stays a below h j lo hi = go result
+      where
+        blank : {rule : Rule} {from : ℕ} {words : List ℕ} {value : ℕ} → Struck map at n rule from words value
+            → programAnswer rule cells from words ≡ programmed.Done → from ≤ j → j < from + length words → granule (partitionAt map a) cells a ≡ 0
+        blank w k lo′ hi′ =
+            let one = shared-word map F below (w .below) lo hi (rw (← w .first, ← w .place) lo′) (rw (← w .first, ← w .count, ← w .place, ← w .size) hi′) in
+            blank-part cells _ _ (λ i l u. done-blank _ cells _ i (rw (w .blank) at k) (omega (arith, one .first, w .first, w .place)) (omega (arith, one .first, one .count, w .first, w .count, w .place, w .size)))
+
+        go : Result → getD (outcome prims map x m .cells) j 0 ≡ getD cells j 0
+        go (unburnt e _) = rw e
+        go (burnt w k f _) = rw f (program-elsewhere _ cells _ _ j (λ lo′ hi′. h (blank w k lo′ hi′)))
+
+  -- ---- in a list
+
+  stays : {x : Command} {at n : ℕ} → Targets map x at n → (answer : Answer) → staysReady x answer
+  stays written answer = tt
+  stays digested answer = tt
+
+  pub found-blank : (m : Machine) → Right map m → (l : List Command) (x : Command) (at n : ℕ) → Targets map x at n
+      → codeOf (answerTo prims map x (after prims map l m)) ≡ 0x00 → (j : ℕ) → at ≤ j → j < at + n → getD (after prims map l m .lent .cells) j 0 ≡ 0
+  unfolding act performed
+  found-blank m r l x at n target e =
+      let m₁ = after prims map l m in
+      target-blank target m₁ (rw (step-act prims map x m₁ (after-right prims map l m r) (stays target _), answerTo) at e)
+
+  pub no-second-burn : (m : Machine) (l : List Command) (x : Command) (at n : ℕ) → Targets map x at n
+      → let m₁ = after prims map l m in
+      (j : ℕ) → (getD (m₁ .lent .cells) j 0 ≡ 0 → ⊥) → getD (machineAfter prims map x m₁ .lent .cells) j 0 ≡ getD (m₁ .lent .cells) j 0
+  unfolding act performed powerUp unchanged
+  no-second-burn m l x at n target j h =
+      let m₁ = after prims map l m in
+      step-all prims map (λ (s : Step). getD (s .result .machine .lent .cells) j 0 ≡ getD (m₁ .lent .cells) j 0) x m₁ (λ answer. refl) refl
+      (word-stays target m₁ j h)
+
+  module _ (a : ℕ) (below : a < limit map) (direct : rightsOf (partitionAt map a .kind) .direct ≡ true) where
+    abbrev first : ℕ
+    first = firstWord (partitionAt map a) a
+
+    abbrev count : ℕ
+    count = wordCount (partitionAt map a) a
+
+    abbrev Held : List ℕ → Type 0
+    Held c = granule (partitionAt map a) c a ≡ 0 → ⊥
+
+    -- a command that neither writes nor computes a digest programs no word that direct access reaches
+    aimless : (x : Command) (m : Machine) (j : ℕ) → first ≤ j → j < first + count → (Aim map x j → ⊥)
+        → getD (outcome prims map x m .cells) j 0 ≡ getD (m .lent .cells) j 0
+    unfolding partitionAt
+    aimless x m j lo hi n = aimless-word prims map F m x j (rw (word-number map F below lo hi) direct) n
+
+    word-held : (x : Command) (m : Machine) → Held (m .lent .cells) → (j : ℕ) → first ≤ j → j < first + count
+        → getD (outcome prims map x m .cells) j 0 ≡ getD (m .lent .cells) j 0
+    word-held (Write b value) m h j lo hi = granule-stays written m a below h j lo hi
+    word-held (Digest b) m h j lo hi = granule-stays digested m a below h j lo hi
+    word-held (Read b) m h j lo hi = aimless (Read b) m j lo hi (λ z. z)
+    word-held (FrontRead b) m h j lo hi = aimless (FrontRead b) m j lo hi (λ z. z)
+    word-held (ReadLock number) m h j lo hi = aimless (ReadLock number) m j lo hi (λ z. z)
+    word-held (Transition target high low) m h j lo hi = aimless (Transition target high low) m j lo hi (λ z. z)
+    word-held PowerUp m h j lo hi = aimless PowerUp m j lo hi (λ z. z)
+
+    step-held : (x : Command) (m : Machine) → Held (m .lent .cells)
+        → partAt (machineAfter prims map x m .lent .cells) first count ≡ partAt (m .lent .cells) first count
+    unfolding act performed powerUp unchanged
+    step-held x m h =
+        step-all prims map (λ (s : Step). partAt (s .result .machine .lent .cells) first count ≡ partAt (m .lent .cells) first count) x m (λ answer. refl) refl
+        (part-same _ (m .lent .cells) first count (word-held x m h))
+
+    still : (c d : List ℕ) → partAt d first count ≡ partAt c first count → Held c → Held d
+    unfolding granule
+    still c d e h z = h (ap numberOf (sym e) ∙ z)
+
+    pub after-held : (l : List Command) (m : Machine) → Held (m .lent .cells)
+        → partAt (after prims map l m .lent .cells) first count ≡ partAt (m .lent .cells) first count
+    unfolding after
+    after-held [] m h = refl
+    after-held (x ∷ l) m h =
+        let e = step-held x m h in
+        after-held l (machineAfter prims map x m) (still (m .lent .cells) _ e h) ∙ e
+
+  pub granule-final : (m : Machine) (a : ℕ) → a < limit map → rightsOf (partitionAt map a .kind) .direct ≡ true → (l₁ l₂ : List Command)
+      → let p = partitionAt map a in
+      (granule p (after prims map l₁ m .lent .cells) a ≡ 0 → ⊥)
+      → partAt (after prims map (l₁ ++ l₂) m .lent .cells) (firstWord p a) (wordCount p a)
+      ≡ partAt (after prims map l₁ m .lent .cells) (firstWord p a) (wordCount p a)
+  granule-final m a below direct l₁ l₂ h = rw after-append (after-held a below direct l₂ (after prims map l₁ m) h)
