@@ -88,7 +88,11 @@ impl Case {
     fn answer_of_program(&self) -> Vec<u8> {
         let mut cells = self.words[..at_most(self.n, HALF)].to_vec();
         let value = &self.words[HALF..HALF + at_most(self.m, HALF)];
-        let code = match words::program(&mut cells, self.a, value) {
+        let programmed = match self.b {
+            0 => words::program(&mut cells, self.a, value),
+            _ => words::burn(&mut cells, self.a, value),
+        };
+        let code = match programmed {
             Ok(()) => 0,
             Err(cell) => 1 + cell as u64,
         };
@@ -157,6 +161,8 @@ mod tests {
         assert_eq!(bytes.len(), ANSWER_BYTES);
         assert_eq!(&bytes[..8], &[3, 0, 0, 0, 0, 0, 0, 0]);
         assert_eq!(&bytes[32..40], &[9, 0, 1, 0, 2, 0, 0, 0]);
+        case.b = 1;
+        assert_eq!(case.answer()[0], 2);
     }
 
     #[test]

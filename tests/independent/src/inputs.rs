@@ -81,13 +81,17 @@ fn cipher(operation: u64, a: u64, b: u64, c: u64) -> Case {
     case
 }
 
-/// Every number of cells at every place about them, with each sort of value.
+/// Every number of cells at every place about them, with each sort of value,
+/// and over cells of which none, one or a few are not blank.
 fn sweep_program(cases: &mut Vec<Case>, random: &mut Random) {
     for n in [0, 1, 2, 5, 47, 48, 49, u64::MAX] {
         for m in [0, 1, 2, 4, 47, 48, 49, u64::MAX] {
             for a in places(n, m) {
                 for sort in [0, 1, 5] {
                     cases.push(program(a, n, m, sort, random));
+                }
+                for most in [0, 1, 3] {
+                    cases.push(burn(a, n, m, most, random));
                 }
             }
         }
@@ -129,7 +133,10 @@ fn random_case(random: &mut Random) -> Case {
                 _ => random.choose(&places(n, m)),
             };
             let sort = random.choose(&[0, 1, 1, 2, 3, 4, 5, 5, 5, 5, 6]);
-            program(a, n, m, sort, random)
+            match random.one_in(2) {
+                true => program(a, n, m, sort, random),
+                false => burn(a, n, m, random.choose(&[0, 1, 1, 2, 8]), random),
+            }
         }
         JOIN => Case {
             operation,
@@ -201,6 +208,7 @@ fn program(a: u64, n: u64, m: u64, sort: u64, random: &mut Random) -> Case {
     let mut case = Case {
         operation: PROGRAM,
         a,
+        b: 0,
         n,
         m,
         ..scribbled(random)
@@ -230,6 +238,35 @@ fn program(a: u64, n: u64, m: u64, sort: u64, random: &mut Random) -> Case {
             4 => 0xffff,
             _ => random.word(),
         };
+    }
+    case
+}
+
+/// A burn of random words, some of them zero, over blank cells but for at most
+/// `most`.
+fn burn(a: u64, n: u64, m: u64, most: u64, random: &mut Random) -> Case {
+    let mut case = Case {
+        operation: PROGRAM,
+        a,
+        b: random.choose(&[1, 1, 2, 1 << 32, u64::MAX]),
+        n,
+        m,
+        ..scribbled(random)
+    };
+    case.words[..HALF].fill(0);
+    for _ in 0..most {
+        let cell = match random.one_in(4) {
+            true => random.below(HALF as u64),
+            false => a.wrapping_add(random.below(m.clamp(1, HALF as u64))),
+        };
+        if let Some(word) = case.words[..HALF].get_mut(cell as usize) {
+            *word = 1 << random.below(16);
+        }
+    }
+    for word in &mut case.words[HALF..] {
+        if random.one_in(4) {
+            *word = 0;
+        }
     }
     case
 }
@@ -269,14 +306,15 @@ mod tests {
     #[test]
     fn programming_is_done_and_refused_at_many_cells() {
         let cases = make(24_000, &mut Random::new(4));
-        let mut seen = [0; HALF + 1];
-        for case in cases.iter().filter(|case| case.operation == PROGRAM) {
-            seen[usize::from(case.answer()[0])] += 1;
+        for burns in [false, true] {
+            let by_rule = |case: &&Case| case.operation == PROGRAM && (case.b != 0) == burns;
+            let mut seen = [0; HALF + 1];
+            for case in cases.iter().filter(by_rule) {
+                seen[usize::from(case.answer()[0])] += 1;
+            }
+            assert!(seen.iter().all(|&times| times > 0), "{seen:?}");
+            let refused = seen[1..].iter().sum::<usize>();
+            assert!(seen[0] > 1200 && refused > 500, "{seen:?}");
         }
-        assert!(seen.iter().all(|&times| times > 0), "{seen:?}");
-        assert!(
-            seen[0] > 1500 && seen.iter().sum::<usize>() - seen[0] > 800,
-            "{seen:?}"
-        );
     }
 }

@@ -42,7 +42,7 @@ pub struct Answer {
 }
 
 /// Refusals without a value.
-pub const BIT_CLEARED: Answer = Answer::refusal(0x04);
+pub const NOT_BLANK: Answer = Answer::refusal(0x04);
 pub const NOT_ALLOWED: Answer = Answer::refusal(0x05);
 pub const NOT_READY: Answer = Answer::refusal(0x07);
 pub const WRONG_LENGTH: Answer = Answer::refusal(0x10);
@@ -150,9 +150,13 @@ impl Chip {
             _ => data,
         };
         let place = partition.granule_words(address);
-        match self.program(place.start, &words::words_of(value)[..place.len()]) {
-            true => Answer::done(0),
-            false => BIT_CLEARED,
+        match words::burn(
+            &mut self.cells,
+            place.start as u64,
+            &words::words_of(value)[..place.len()],
+        ) {
+            Ok(()) => Answer::done(0),
+            Err(_) => NOT_BLANK,
         }
     }
 
@@ -173,9 +177,10 @@ impl Chip {
             return NOT_ALLOWED;
         }
         let digest = self.computed_digest(number);
-        match self.program(MAP[number].digest_words().start, &words::words_of(digest)) {
-            true => Answer::done(digest),
-            false => BIT_CLEARED,
+        let place = MAP[number].digest_words().start as u64;
+        match words::burn(&mut self.cells, place, &words::words_of(digest)) {
+            Ok(()) => Answer::done(digest),
+            Err(_) => NOT_BLANK,
         }
     }
 
@@ -204,11 +209,6 @@ impl Chip {
 
     pub fn unscramble(&self, number: usize, stored: u64) -> u64 {
         present::decrypt(constants::secret_key(&self.constants, number), stored)
-    }
-
-    /// Programs cells from a word on. False when a bit would be cleared.
-    pub fn program(&mut self, at: usize, value: &[u16]) -> bool {
-        words::program(&mut self.cells, at as u64, value).is_ok()
     }
 }
 

@@ -3,7 +3,7 @@
 use crate::chips;
 use crate::constants::{A, B, C, D};
 use crate::life_cycle::{token_between, SCRAP};
-use crate::map::{CELLS, HW_CFG, LIFE_CYCLE, MAP};
+use crate::map::{find, Partition, CELLS, HW_CFG, LIFE_CYCLE, MAP};
 use crate::model::{Chip, Command};
 use crate::random::Random;
 use crate::scenarios::Run;
@@ -15,6 +15,8 @@ pub fn runs(random: &mut Random) -> Vec<Run> {
     let constants = chips::constants(random);
     let mut runs = addresses(&constants, random);
     runs.extend(digest_edges(&constants));
+    runs.extend(held_words(&constants));
+    runs.extend(second_digests(&constants));
     runs.extend(numbers(&constants));
     runs.extend(broken_scripts(&constants));
     runs.extend(broken_constants(&constants));
@@ -70,6 +72,45 @@ fn digest_edges(constants: &[u16]) -> Vec<Run> {
         }
     }
     runs
+}
+
+/// Every granule of data with its first, second, third or fourth word not
+/// blank, or the last for one that has fewer: no value is taken there.
+fn held_words(constants: &[u16]) -> Vec<Run> {
+    let mut runs = Vec::new();
+    for held in 0..4 {
+        let (mut cells, mut commands) = (blank(), vec![PowerUp]);
+        for address in granules() {
+            let words = MAP[find(address).unwrap()].granule_words(address);
+            cells[words.start + held.min(words.len() - 1)] = 1 << held;
+            for data in [u64::MAX, 1 << (16 * held + held), 0] {
+                commands.push(Write(address, data));
+            }
+            commands.push(Read(address));
+        }
+        runs.push(Run::of(&commands, &cells, constants));
+    }
+    runs
+}
+
+/// The first address of each granule of data that direct access may write.
+fn granules() -> impl Iterator<Item = u32> {
+    let starts = |partition: &'static Partition| {
+        (partition.start..partition.digest).step_by(partition.granule as usize)
+    };
+    MAP[..LIFE_CYCLE].iter().flat_map(starts)
+}
+
+/// Each digest command given again: at once, after more data, and locked.
+fn second_digests(constants: &[u16]) -> Vec<Run> {
+    let hardware = MAP[HW_CFG..LIFE_CYCLE].iter();
+    let again = |partition: &Partition| {
+        let (start, digest) = (partition.start, Digest(partition.start));
+        let burns = [PowerUp, digest, digest, Write(start, 1), digest];
+        let reads = [Read(start), Read(partition.digest), PowerUp, digest];
+        Run::of(&[&burns[..], &reads].concat(), &blank(), constants)
+    };
+    hardware.map(again).collect()
 }
 
 /// Every partition number for a read lock, every target above the last.
@@ -203,6 +244,38 @@ mod tests {
         // Two software digests that the first write has locked, four hardware
         // digests, and the first 8 addresses of LIFE_CYCLE.
         assert_eq!(runs.iter().filter(locked).count(), (2 * 8 + 4 * 8 + 8) * 3);
+    }
+
+    #[test]
+    fn no_granule_with_a_held_word_takes_a_value() {
+        let constants = chips::constants(&mut Random::new(44));
+        let runs = held_words(&constants);
+        assert_eq!(
+            (runs.len(), granules().count()),
+            (4, 62 + 62 + 18 + 4 + 10 + 10)
+        );
+        for run in runs {
+            let printed = run.printed();
+            assert_eq!(printed.matches("\n02 04 0000000000000000").count(), 3 * 166);
+            assert_eq!(printed.matches("\n01 00").count(), 166);
+        }
+    }
+
+    #[test]
+    fn no_digest_command_is_done_twice() {
+        let constants = chips::constants(&mut Random::new(45));
+        for run in second_digests(&constants) {
+            let printed = run.printed();
+            assert_eq!(
+                printed.matches("\n04 04 0000000000000000").count(),
+                2,
+                "{printed}"
+            );
+            assert!(
+                printed.starts_with("07 00 0000000000000000\n04 00"),
+                "{printed}"
+            );
+        }
     }
 
     #[test]

@@ -1,5 +1,5 @@
-//! The 14 cases of the paper, those of request Two, and rules about the record
-//! beside them.
+//! The 14 cases of the paper, those of requests Two and Three, and rules about
+//! the record beside them.
 
 use crate::constants::{example, raw_token};
 use crate::life_cycle::{counter_words, state_words};
@@ -78,13 +78,74 @@ fn case_03_low_address_bits() {
 }
 
 #[test]
-fn case_04_bits_are_only_set() {
+fn case_04_no_second_burn() {
     let steps = [
         (Write(0, 0x0f), 0, 0),
         (Write(0, 0xf0), 4, 0),
-        (Write(0, 0xff), 0, 0),
+        (Write(0, 0xff), 4, 0),
     ];
     expect(&mut ready(), &steps);
+}
+
+#[test]
+fn a_granule_is_burnt_once() {
+    for address in [0x000, 0x0f8, 0x1f4, 0x200, 0x250, 0x2c0] {
+        let mut chip = ready();
+        expect(&mut chip, &[(Write(address, 0x1_0001), 0, 0)]);
+        let cells = chip.cells.clone();
+        for data in [0x1_0001, 0xffff_ffff, u64::MAX, 0, 1 << 40] {
+            expect(&mut chip, &[(Write(address, data), 4, 0)]);
+        }
+        assert_eq!(chip.cells, cells, "{address:x}");
+    }
+}
+
+#[test]
+fn a_zero_burns_nothing_where_it_is_stored_plain() {
+    let mut chip = ready();
+    let steps = [(Write(0x200, 0), 0, 0), (Write(0x200, 0), 0, 0)];
+    expect(&mut chip, &steps);
+    assert_eq!(chip.cells, vec![0; CELLS]);
+    let steps = [(Write(0x200, 9), 0, 0), (Write(0x200, 0), 4, 0)];
+    expect(&mut chip, &steps);
+}
+
+#[test]
+fn a_zero_burns_a_secret_granule() {
+    let mut chip = ready();
+    expect(
+        &mut chip,
+        &[(Write(0x250, 0), 0, 0), (Write(0x250, 0), 4, 0)],
+    );
+    assert_ne!(chip.cells, vec![0; CELLS]);
+    // Unless its stored form is zero, as that of what a blank block reads.
+    let unburnt = chip.execute(Read(0x258)).value;
+    let cells = chip.cells.clone();
+    expect(&mut chip, &[(Write(0x258, unburnt), 0, 0)]);
+    assert_eq!(chip.cells, cells);
+    expect(&mut chip, &[(Write(0x258, 0), 0, 0), (Read(0x258), 0, 0)]);
+}
+
+#[test]
+fn a_digest_command_is_done_once() {
+    let mut chip = ready();
+    let digest = chip.computed_digest(2);
+    let steps = [
+        (Digest(0x200), 0, digest),
+        (Digest(0x200), 4, 0),
+        (Read(0x248), 0, digest),
+        (Write(0x200, 1), 0, 0),
+        (Digest(0x200), 4, 0),
+        (PowerUp, 6, 2),
+    ];
+    expect(&mut chip, &steps);
+}
+
+#[test]
+fn life_cycle_words_are_programmed_again() {
+    let mut chip = powered(at(1, 1));
+    expect(&mut chip, &[(Transition(2, 0), 0, 0), (PowerUp, 0, 514)]);
+    expect(&mut chip, &[(Transition(0, 0), 0x21, 0), (PowerUp, 0, 770)]);
 }
 
 #[test]
@@ -394,22 +455,4 @@ fn lengths_come_before_constants_and_phase() {
     let before = chip.clone();
     expect(&mut chip, &[(PowerUp, 0x12, 0), (Read(0x380), 0x12, 0)]);
     assert_eq!(chip, before);
-}
-
-#[test]
-fn a_digest_that_would_clear_a_bit() {
-    let mut chip = ready();
-    let first = chip.computed_digest(2);
-    expect(
-        &mut chip,
-        &[(Digest(0x200), 0, first), (Digest(0x200), 0, first)],
-    );
-    expect(
-        &mut chip,
-        &[
-            (Write(0x200, 1), 0, 0),
-            (Digest(0x200), 4, 0),
-            (PowerUp, 6, 2),
-        ],
-    );
 }

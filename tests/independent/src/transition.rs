@@ -3,7 +3,7 @@
 use crate::constants::{self, COUNTERS};
 use crate::life_cycle::{self, Token, MOST_STROKES, SCRAP};
 use crate::map::{LIFE_CYCLE, MAP, SECRET0, SECRET2};
-use crate::model::{Answer, Chip, Phase, BIT_CLEARED, NOT_READY};
+use crate::model::{Answer, Chip, Phase, NOT_BLANK, NOT_READY};
 use crate::words;
 
 /// Partition of each stored token and its byte address.
@@ -27,7 +27,7 @@ impl Chip {
         }
         let answer = self.attempt(target, token);
         self.session.phase = match answer {
-            BIT_CLEARED => Phase::Dead(0x04),
+            NOT_BLANK => Phase::Dead(0x04),
             _ => Phase::Inert,
         };
         answer
@@ -40,7 +40,7 @@ impl Chip {
         let counters_at = MAP[LIFE_CYCLE].data().start;
         let counters = life_cycle::counter_words(&self.constants, self.session.count + 1);
         if !self.program(counters_at, &counters) {
-            return BIT_CLEARED;
+            return NOT_BLANK;
         }
         let Some(asked) = life_cycle::token_between(self.session.state, target) else {
             return NOT_IN_TABLE;
@@ -51,8 +51,14 @@ impl Chip {
         let states = life_cycle::state_words(&self.constants, target);
         match self.program(counters_at + COUNTERS, &states) {
             true => Answer::done(0),
-            false => BIT_CLEARED,
+            false => NOT_BLANK,
         }
+    }
+
+    /// Programs life cycle words from a word on. False when a bit would be
+    /// cleared.
+    fn program(&mut self, at: usize, value: &[u16]) -> bool {
+        words::program(&mut self.cells, at as u64, value).is_ok()
     }
 
     fn judge_token(&self, asked: Token, given: u128) -> Option<Answer> {

@@ -130,6 +130,7 @@ fn write(chip: &Chip, address: u32, random: &mut Random) -> Command {
         3 => (stored | random.next() & 0xffff) & !highest_bit(stored),
         4 => stored & random.next(),
         5 => stored | random.next() << 32,
+        6 if random.one_in(2) => 0,
         _ => random.number(),
     };
     Command::Write(address, data)

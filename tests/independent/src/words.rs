@@ -1,4 +1,4 @@
-//! Numbers of 16-bit words, the lowest first, and the programming of words.
+//! Numbers of 16-bit words, the lowest first, and the two ways to program them.
 
 /// The number of up to eight words; words past the eighth don't count.
 pub fn wide_number(words: &[u16]) -> u128 {
@@ -50,6 +50,18 @@ pub fn program(cells: &mut [u16], at: u64, value: &[u16]) -> Result<(), usize> {
     Ok(())
 }
 
+/// Burns `value` into the cells from cell `at` on, or says the lowest of them
+/// that is not blank. What lies past the cells is not there.
+pub fn burn(cells: &mut [u16], at: u64, value: &[u16]) -> Result<(), usize> {
+    let start = at.min(cells.len() as u64) as usize;
+    let end = cells.len().min(start + value.len());
+    if let Some(held) = (start..end).find(|&cell| cells[cell] != 0) {
+        return Err(held);
+    }
+    cells[start..end].copy_from_slice(&value[..end - start]);
+    Ok(())
+}
+
 /// All bits, the lowest bit of the first word first.
 fn bits_of(words: &[u16]) -> Vec<bool> {
     let bits = |word: &u16| {
@@ -89,6 +101,19 @@ mod tests {
     }
 
     #[test]
+    fn only_blank_words_are_burnt() {
+        let mut cells = [0, 0, 0, 4];
+        assert_eq!(burn(&mut cells, 0, &[0, 7]), Ok(()));
+        assert_eq!(burn(&mut cells, 0, &[0, 7]), Err(1));
+        assert_eq!(burn(&mut cells, 1, &[0xffff]), Err(1));
+        assert_eq!(burn(&mut cells, 2, &[1, 4]), Err(3));
+        assert_eq!(cells, [0, 7, 0, 4]);
+        assert_eq!(burn(&mut cells, 2, &[0]), Ok(()));
+        assert_eq!(burn(&mut cells, 2, &[9]), Ok(()));
+        assert_eq!(cells, [0, 7, 9, 4]);
+    }
+
+    #[test]
     fn past_the_end_is_not_there() {
         let mut cells = [1, 2];
         assert_eq!(program(&mut cells, 1, &[3, 0, 0]), Ok(()));
@@ -97,6 +122,12 @@ mod tests {
         assert_eq!(program(&mut cells, u64::MAX, &[0, 0]), Ok(()));
         assert_eq!(program(&mut cells, 1 << 60, &[0]), Ok(()));
         assert_eq!(program(&mut cells, 0, &[]), Ok(()));
+        assert_eq!(burn(&mut cells, 0, &[]), Ok(()));
+        assert_eq!(burn(&mut cells, 2, &[7]), Ok(()));
+        assert_eq!(burn(&mut cells, u64::MAX, &[7, 7]), Ok(()));
         assert_eq!(cells, [1, 3]);
+        cells[1] = 0;
+        assert_eq!(burn(&mut cells, 1, &[5, 6]), Ok(()));
+        assert_eq!(cells, [1, 5]);
     }
 }
