@@ -56,6 +56,8 @@ RAW_TOKEN = 0x0F1E2D3C4B5A69788796A5B4C3D2E1F0
 TEST_UNLOCK = 0x11112222333344445555666677778888
 TEST_EXIT = 0x9999AAAABBBBCCCCDDDDEEEEFFFF0001
 RMA_TOKEN = 0x0123456789ABCDEFFEDCBA9876543210
+# What a blank block of SECRET0 reads with these constants: zero, unscrambled.
+BLANK_READS = 0xEC66DF3A5DA109C0
 
 
 def constants():
@@ -154,7 +156,7 @@ CASES = [
     ("blank power-up", UP, lines((7, 0, 0)), BLANK),
     ("blank reads at both ends of direct access", UP + read(0x327) + read(0x328) + read(0x37F) + read(0x380), lines((7, 0, 0), (1, 0, 0), (1, 5, 0), (1, 5, 0), (1, 5, 0)), BLANK),
     ("a write at 3 acts at 0", UP + write(3, 0x55) + read(0), lines((7, 0, 0), (2, 0, 0), (1, 0, 0x55)), BLANK),
-    ("0x0F, then 0xF0, then 0xFF at 0", UP + write(0, 0x0F) + write(0, 0xF0) + write(0, 0xFF), lines((7, 0, 0), (2, 0, 0), (2, 4, 0), (2, 0, 0)), BLANK),
+    ("0x0F, then 0xF0, then 0xFF at 0", UP + write(0, 0x0F) + write(0, 0xF0) + write(0, 0xFF), lines((7, 0, 0), (2, 0, 0), (2, 4, 0), (2, 4, 0)), BLANK),
     ("a write at a hardware digest", UP + write(0x248, 1), lines((7, 0, 0), (2, 5, 0)), BLANK),
     ("digest commands at no start of 2 to 5", UP + digest(0x000) + digest(0x204), lines((7, 0, 0), (4, 5, 0), (4, 5, 0)), BLANK),
     ("a digest, written in one piece, locks from the next power-up", UP + write(0x0F8, 1) + read(0x0FC) + write(0x004, 1) + UP + write(0x004, 3),
@@ -199,6 +201,29 @@ for name, start in (("creator", 0x000), ("owner", 0x100)):
 run("hardware_digest_reads", "a read anywhere in a hardware digest answers its 64 bits, beside its data and the next partition's; a write there is refused",
     UP + b"".join(digest(a) for a in (0x200, 0x250, 0x278, 0x2D0)) + b"".join(read(a + d) + write(a + 4, 1) for a in (0x248, 0x270, 0x2C8, 0x320) for d in (-1, 0, 3, 4, 7, 8)))
 
+# ---- no second burn
+TRIED = (0x0F, 0xFF, 0xF0, 0, 2**64 - 1)
+for name, start in (("creator", 0x000), ("last_of_owner", 0x1F4), ("device_id", 0x200)):
+    run("%s_burnt_once" % name, "0x%03X takes a value once: the same again, one that clears no bit, one that does and zero answer 4, and still do after a power-up" % start,
+        UP + write(start, 0x0F) + b"".join(write(start, v) for v in TRIED) + read(start) + UP + b"".join(write(start, v) for v in TRIED) + read(start) + write(start ^ 4, 0xFF),
+        lines((7, 0, 0), (2, 0, 0), *[(2, 4, 0)] * 5, (1, 0, 0x0F), (7, 0, 0), *[(2, 4, 0)] * 5, (1, 0, 0x0F), (2, 0, 0)))
+run("device_code_stands", "a second device code that clears no bit of the first answers 4, and the first is what is read and, after a power-up, front-read",
+    UP + write(0x200, 0xC0DE0001) + write(0x200, 0xC0DE0003) + read(0x200) + UP + front(0x200) + write(0x200, 0xC0DE0003) + front(0x200),
+    lines((7, 0, 0), (2, 0, 0), (2, 4, 0), (1, 0, 0xC0DE0001), (7, 0, 0), (3, 0, 0xC0DE0001), (2, 4, 0), (3, 0, 0xC0DE0001)))
+run("other_word_of_the_granule", "a granule with one word burnt takes none for its blank word, of 4 bytes and of 8; the next granule does",
+    UP + write(0, 1 << 16) + write(0, (1 << 16) + 1) + write(4, 1) + write(0xF8, 1 << 48) + write(0xF8, (1 << 48) + 1) + read(0) + read(0xF8),
+    lines((7, 0, 0), (2, 0, 0), (2, 4, 0), (2, 0, 0), (2, 0, 0), (2, 4, 0), (1, 0, 1 << 16), (1, 0, 1 << 48)))
+run("zero_in_a_blank_granule", "a zero in a blank granule answers 0 and changes nothing: a value can follow, and then no zero; a digest of zero locks nothing",
+    UP + write(0x200, 0) * 2 + write(0x200, 5) + write(0x200, 0) + read(0x200) + write(0xF8, 0) + UP + write(0, 1) + write(0xF8, 1) + write(0xF8, 0),
+    lines((7, 0, 0), (2, 0, 0), (2, 0, 0), (2, 0, 0), (2, 4, 0), (1, 0, 5), (2, 0, 0), (7, 0, 0), (2, 0, 0), (2, 0, 0), (2, 4, 0)))
+run("zero_in_a_secret_granule", "a zero in a secret granule is stored scrambled and burns; the value whose stored form is zero, which a blank block reads, does not",
+    UP + write(0x250, 0) + write(0x250, 0) + read(0x250) + read(0x258) + write(0x258, BLANK_READS) * 2 + write(0x258, 7) + write(0x258, BLANK_READS) + read(0x258),
+    lines((7, 0, 0), (2, 0, 0), (2, 4, 0), (1, 0, 0), (1, 0, BLANK_READS), (2, 0, 0), (2, 0, 0), (2, 0, 0), (2, 4, 0), (1, 0, 7)))
+run("digests_again", "each digest command again answers 4, though it computes the same, and the digest stays",
+    UP + b"".join(digest(a) * 2 + read(d) for a, d in ((0x200, 0x248), (0x250, 0x270), (0x278, 0x2C8), (0x2D0, 0x320))) + UP)
+run("counter_words_again", "LIFE_CYCLE words keep the old rule: a stroke sets bits in words that are not blank, and so does a move",
+    UP + move(2) + UP + move(0) + UP, lines((7, 0, 257), (6, 0, 0), (7, 0, 514), (6, 0x21, 0), (7, 0, 770)), life(1, state(1)))
+
 # ---- what the paper leaves to its general rules
 run("target_equals_state", "a target equal to the state is not in the table: the stroke is spent, then 0x21", UP + move(1, RAW_TOKEN) + UP + move(1, RAW_TOKEN) + UP,
     lines((7, 0, 0), (6, 0, 0), (7, 0, 257), (6, 0x21, 0), (7, 0, 513)))
@@ -228,7 +253,7 @@ run("provisioning", "all partitions written, digests, a power-up; then locked re
 COURSE = (UP + FILL + digest(0x250) + digest(0x2D0) + UP + move(1, RAW_TOKEN ^ 1) + UP + move(1, RAW_TOKEN) + UP + move(2) + UP + move(3, TEST_UNLOCK ^ (1 << 127)) + UP
           + move(3, TEST_UNLOCK) + UP + move(16, TEST_UNLOCK) + UP + move(16, TEST_EXIT) + UP + move(19, TEST_EXIT) + UP + move(19, RMA_TOKEN) + UP + move(16) + UP + move(20) + UP + read(0) + UP)
 run("life_cycle_course", "RAW through TEST, DEV and RMA to SCRAP, with right and wrong tokens", COURSE)
-run("digest_again", "a digest command over its digest, before and after more data, and the power-up that then fails",
+run("digest_again", "a digest command over its digest answers 4, before and after more data; the power-up then fails",
     UP + write(0x200, 1) + digest(0x200) + digest(0x200) + write(0x204, 2) + digest(0x200) + read(0x248) + UP)
 LOCKED = UP + TOKENS + digest(0x250) + digest(0x2D0) + UP + move(1, RAW_TOKEN) + UP
 run("prod_to_rma", "TEST_UNLOCKED0 to PROD with TEST_EXIT, and PROD to RMA with the RMA token", LOCKED + move(17, TEST_EXIT) + UP + move(19, RMA_TOKEN) + UP)
