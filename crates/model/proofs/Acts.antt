@@ -3,7 +3,7 @@ use mathlib.Core.Path.{_≡_, refl, ap, _∙_}
 use mathlib.Core.Bool.{Bool, true, false}
 use mathlib.Core.List.{List}
 use Prim.Native.Nat.{ℕ, _+_, _≤_, _<_}
-use lib.Dec.{eqb}
+use lib.Dec.{eqb, ltb}
 use lib.ListN.{length, getD}
 use borrow.Author.Tests.{eqb-false}
 use Rattle.basics.specs.Choice.{if_then_else_}
@@ -74,9 +74,9 @@ perform-frame (compares {test = test} same other) copy cells j h =
 
 -- ---- acts that program once
 
--- the act refuses with a code other than 0, or it programs words by a rule from a place on and answers 0 with a value, all of which have P
+-- the act refuses with a code above 4, or it programs words by a rule from a place on and answers 0 with a value, all of which have P
 pub data Once (P : Rule → ℕ → List ℕ → ℕ → Type 0) : Act → Type 0 where
-  refuses : {answer : Answer} → eqb (codeOf answer) 0x00 ≡ false → Once P (refuse answer)
+  refuses : {answer : Answer} → ltb 4 (codeOf answer) ≡ true → Once P (refuse answer)
   burns : {rule : Rule} {at : ℕ} {words : List ℕ} {value : ℕ} → P rule at words value → Once P (program rule at words stay (say (Done value) stay))
 
 pub once-if : {P : Rule → ℕ → List ℕ → ℕ → Type 0} {b : Bool} {x y : Act} → (b ≡ true → Once P x) → (b ≡ false → Once P y) → Once P (if b then x else y)
@@ -87,17 +87,19 @@ pub once-map : {P Q : Rule → ℕ → List ℕ → ℕ → Type 0} {x : Act}
 once-map f (refuses e) = refuses e
 once-map f (burns {rule = rule} {at = at} {words = words} {value = value} h) = burns (f rule at words value h)
 
--- performed, it leaves every cell and does not answer 0, or the words are programmed whole
+-- performed, it leaves every cell with such a code or because a cell refuses, or the words are programmed whole
 pub data Burnt (P : Rule → ℕ → List ℕ → ℕ → Type 0) (cells : List ℕ) (r : Performed) : Type 0 where
-  unburnt : r .cells ≡ cells → eqb (codeOf (r .answer)) 0x00 ≡ false → Burnt P cells r
+  left : r .cells ≡ cells → ltb 4 (codeOf (r .answer)) ≡ true → Burnt P cells r
+  unburnt : {rule : Rule} {at : ℕ} {words : List ℕ} {value cell : ℕ} → P rule at words value → programAnswer rule cells at words ≡ programmed.Refused cell
+      → r .cells ≡ cells → r .answer ≡ NotBlank cell → Burnt P cells r
   burnt : {rule : Rule} {at : ℕ} {words : List ℕ} {value : ℕ} → P rule at words value → programAnswer rule cells at words ≡ programmed.Done → r .cells ≡ programCells rule cells at words
       → r .answer ≡ Done value → Burnt P cells r
 
 pub perform-once : {P : Rule → ℕ → List ℕ → ℕ → Type 0} {x : Act} → Once P x → (copy cells : List ℕ) → Burnt P cells (perform x copy cells)
 unfolding perform
-perform-once (refuses e) copy cells = unburnt refl e
+perform-once (refuses e) copy cells = left refl e
 perform-once {P} (burns {rule = rule} {at = at} {words = words} {value = value} h) copy cells =
-    after-both (Burnt P cells) (programAnswer rule cells at words) _ _ (λ e. burnt {value = value} h e refl refl) (λ cell e. unburnt refl refl)
+    after-both (Burnt P cells) (programAnswer rule cells at words) _ _ (λ e. burnt {value = value} h e refl refl) (λ cell e. unburnt {value = value} h e refl refl)
 
 -- ---- the answers that an act may give, with the turns that go with them
 

@@ -24,14 +24,14 @@ use Rattle.partitions.proofs.Map.{inside, partition-at, partition-fit, end-with
 use Rattle.partitions.proofs.Granules.{word-inside, word-number, digest-word, digest-granule}
 use Rattle.model.specs.declared.Answer.{Answer}
 use Rattle.model.specs.declared.Command.{Command}
-use Rattle.model.specs.declared.Command.the-variants.{Read, Write, FrontRead, Digest, ReadLock, Transition, PowerUp}
+use Rattle.model.specs.declared.Command.the-variants.{Write, Digest}
 use Rattle.model.specs.Lent.{Machine, Primitives}
 use Rattle.model.specs.Commands.{storedDigest, scrambled}
 use Rattle.model.specs.Step.{Step, unchanged, performed, act, powerUp, after, machineAfter, answerTo}
 use Rattle.model.specs.Terms.{Right, Digested}
 use Rattle.model.specs.Beyond.{Puts, writes, computes, Source, found, put}
-use Rattle.model.proofs.Acts.{Burnt, unburnt, burnt, perform-once}
-use Rattle.model.proofs.Frame.{Aim, aimless-word}
+use Rattle.model.proofs.Acts.{Burnt, left, unburnt, burnt, perform-once}
+use Rattle.model.proofs.Frame.{Aim, by-aim, aimless-word}
 use Rattle.model.proofs.Steps.{outcome, step-all, cells-length, step-right}
 use Rattle.model.proofs.Targets.{Written, Computed, write-once, digest-once}
 
@@ -99,7 +99,8 @@ module _ (prims : Primitives) (map : Map) (F : fit map ≡ true) (n : ℕ) (D : 
   write-changes m r a value = go (perform-once (write-once prims map m a value) (m .lent .copy) (m .lent .cells))
     where
       go : Burnt (Written prims map m a value) (m .lent .cells) (outcome prims map (Write a value) m) → Changes (Write a value) m
-      go (unburnt e _) = kept (rw e)
+      go (left e _) = kept (rw e)
+      go (unburnt _ _ e _) = kept (rw e)
       go (burnt w k f e) =
           by-cases (eqb (numberAt map a) n && inDigest p a)
           (λ t.
@@ -122,7 +123,8 @@ module _ (prims : Primitives) (map : Map) (F : fit map ≡ true) (n : ℕ) (D : 
   digest-changes m r a = go (perform-once (digest-once prims map m a) (m .lent .copy) (m .lent .cells))
     where
       go : Burnt (Computed prims map m a) (m .lent .cells) (outcome prims map (Digest a) m) → Changes (Digest a) m
-      go (unburnt e _) = kept (rw e)
+      go (left e _) = kept (rw e)
+      go (unburnt _ _ e _) = kept (rw e)
       go (burnt w k f e) =
           by-cases (eqb (numberAt map a) n)
           (λ t.
@@ -137,20 +139,14 @@ module _ (prims : Primitives) (map : Map) (F : fit map ≡ true) (n : ℕ) (D : 
   aimless : (x : Command) (m : Machine) → ((j : ℕ) → Aim map x j → ⊥) → Changes x m
   aimless x m h = kept (digest-same _ _ (λ j w. aimless-word prims map F m x j (rw (partition-at map (2 * j) (word-at j w)) (D .direct)) (h j)))
 
-  command-changes : (x : Command) (m : Machine) → Right map m → Changes x m
-  command-changes (Write a value) m r = write-changes m r a value
-  command-changes (Digest a) m r = digest-changes m r a
-  command-changes (Read a) m r = aimless (Read a) m (λ j z. z)
-  command-changes (FrontRead a) m r = aimless (FrontRead a) m (λ j z. z)
-  command-changes (ReadLock number) m r = aimless (ReadLock number) m (λ j z. z)
-  command-changes (Transition target high low) m r = aimless (Transition target high low) m (λ j z. z)
-  command-changes PowerUp m r = aimless PowerUp m (λ j z. z)
+  command-changes : (m : Machine) → Right map m → (x : Command) → Changes x m
+  command-changes m r = by-aim {map = map} (λ (x : Command). Changes x m) (write-changes m r) (digest-changes m r) (λ x h. aimless x m h)
 
   step-changes : (x : Command) (m : Machine) → Right map m → Change x (m .lent .cells) (machineAfter prims map x m .lent .cells) (answerTo prims map x m)
   unfolding unchanged powerUp act performed
   step-changes x m r =
       step-all prims map (λ (s : Step). Change x (m .lent .cells) (s .result .machine .lent .cells) (s .result .answer)) x m (λ answer. kept refl) (kept refl)
-      (command-changes x m r)
+      (command-changes m r x)
 
   pub whole-digests : (l : List Command) (m : Machine) → Right map m → Source prims map m l n (storedDigest p (after prims map l m .lent .cells))
   unfolding after

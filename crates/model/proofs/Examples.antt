@@ -19,6 +19,7 @@ use Rattle.partitions.proofs.Map1.{map1-fit}
 use Rattle.model.specs.declared.Answer.the-variants.{Done, NotBlank, Denied}
 use Rattle.model.specs.declared.Command.{Command}
 use Rattle.model.specs.declared.Command.the-variants.{Read, Write, FrontRead, Digest, ReadLock, Transition, PowerUp}
+use Rattle.model.specs.Answers.{codeOf}
 use Rattle.model.specs.Lent.{Machine}
 use Rattle.life_cycle.specs.declared.LifeCycle.the-variants.{Valid}
 use Rattle.model.specs.Commands.{granule, storedDigest}
@@ -145,7 +146,16 @@ zero-on = toy-beyond .lasting (off blank) (right blank refl) [] [] woken 0x003 0
 
 found-word : getD (after toy map1 (PowerUp ∷ []) (off blank) .lent .cells) 1 0 ≡ 0
 found-word =
-    toy-beyond .blanks (off blank) (right blank refl) (PowerUp ∷ []) (Write 0x003 0x55) 0 2 (unfold everything in written) (unfold everything in refl) 1 (omega arith) (lit< tt)
+    toy-beyond .taken (off blank) (right blank refl) (PowerUp ∷ []) (Write 0x003 0x55) 0 2 (unfold everything in written) (unfold everything in refl) 1 (omega arith) (lit< tt)
+
+again-refused : codeOf (answerTo toy map1 (Write 0x003 0x55) wrote) ≡ 0x04
+unfolding everything wrote
+again-refused = refl
+
+not-blank : ((j : ℕ) → 0 ≤ j → j < 2 → getD (wrote .lent .cells) j 0 ≡ 0) → ⊥
+unfolding wrote after
+not-blank =
+    toy-beyond .refused (off blank) (right blank refl) (PowerUp ∷ Write 0x003 0x55 ∷ []) (Write 0x003 0x55) 0 2 (unfold everything in written) (unfold wrote in again-refused)
 
 burnt-word : getD (wrote .lent .cells) 0 0 ≡ 0x55
 unfolding everything wrote

@@ -16,7 +16,7 @@ use Rattle.partitions.proofs.KindRights.{hardware-direct}
 use Rattle.partitions.proofs.Map.{inside, life-cycle-word, life-cycle-partition}
 use Rattle.partitions.proofs.Granules.{word-number, digest-word}
 use Rattle.life_cycle.proofs.Encoding.{counter-length, state-length}
-use Rattle.partitions.specs.Map.{Map, rightsOf, numberAt, partition, partitionAt, inDigest, firstWord, wordCount, numberOfKind}
+use Rattle.partitions.specs.Map.{Map, rightsOf, numberAt, partition, partitionAt, limit, inDigest, firstWord, wordCount, numberOfKind}
 use Rattle.life_cycle.specs.declared.Token.{Token}
 use Rattle.life_cycle.specs.declared.Token.the-variants.{Nothing, RawUnlock, TestUnlock, TestExit, Rma}
 use Rattle.life_cycle.specs.declared.Entry.{Entry}
@@ -56,6 +56,17 @@ Aim map (FrontRead a) j = ⊥
 Aim map (ReadLock number) j = ⊥
 Aim map (Transition target high low) j = ⊥
 Aim map PowerUp j = ⊥
+
+-- a command is a write, a digest command, or aims nowhere
+pub by-aim : {map : Map} (Q : Command → Type 0) → ((a value : ℕ) → Q (Write a value)) → ((a : ℕ) → Q (Digest a))
+    → ((x : Command) → ((j : ℕ) → Aim map x j → ⊥) → Q x) → (x : Command) → Q x
+by-aim Q f g h (Write a value) = f a value
+by-aim Q f g h (Digest a) = g a
+by-aim Q f g h (Read a) = h (Read a) (λ j z. z)
+by-aim Q f g h (FrontRead a) = h (FrontRead a) (λ j z. z)
+by-aim Q f g h (ReadLock number) = h (ReadLock number) (λ j z. z)
+by-aim Q f g h (Transition target high low) = h (Transition target high low) (λ j z. z)
+by-aim Q f g h PowerUp = h PowerUp (λ j z. z)
 
 -- a word that a command may program under this record
 pub data Open (map : Map) (x : Command) (s : Session) (j : ℕ) : Type 0 where
@@ -164,3 +175,10 @@ module _ (prims : Primitives) (map : Map) (F : fit map ≡ true) where
         shut : Open map x (m .session) j → ⊥
         shut (unlocked r e z aim) = n aim
         shut (lifeCycle r t e) = true-not-false d (life-closed j e)
+
+    -- and so does a word of the granule of such an address
+    pub aimless-granule : (x : Command) {a : ℕ} → a < limit map → rightsOf (partitionAt map a .kind) .direct ≡ true
+        → (j : ℕ) → firstWord (partitionAt map a) a ≤ j → j < firstWord (partitionAt map a) a + wordCount (partitionAt map a) a → (Aim map x j → ⊥)
+        → getD (perform (readyAct prims map m x) (m .lent .copy) (m .lent .cells) .cells) j 0 ≡ getD (m .lent .cells) j 0
+    unfolding partitionAt
+    aimless-granule x below d j lo hi n = aimless-word x j (rw (word-number map F below lo hi) d) n

@@ -3,31 +3,30 @@
 use mathlib.Core.Path.{_≡_, refl, sym, ap, _∙_}
 use mathlib.Core.Bool.{true}
 use mathlib.Core.List.{List, [], _∷_, _++_}
-use Prim.Native.Nat.{ℕ, _+_, _*_, _≤_, _<_}
+use Prim.Native.Nat.{ℕ, _+_, _≤_, _<_}
 use native.Mathlib.Omega.{arith}
 use lib.ListN.{length, getD}
-use borrow.Author.Tests.{eqb-false}
+use borrow.Author.Tests.{ltb-true}
 use Rattle.words.specs.declared.Rule.{Rule}
 use Rattle.words.specs.declared.Programmed.the-variants as programmed
 use Rattle.words.specs.Words.{numberOf, partAt}
 use Rattle.words.specs.Programming.{programAnswer}
 use Rattle.words.proofs.Parts.{blank-part, part-same}
-use Rattle.words.proofs.Programming.{program-elsewhere, done-blank}
+use Rattle.words.proofs.Programming.{program-elsewhere, blank-done, done-blank}
 use Rattle.partitions.specs.Map.{Map, rightsOf, partitionAt, limit, firstWord, wordCount}
 use Rattle.partitions.specs.Fitness.{fit}
-use Rattle.partitions.proofs.Granules.{word-number, shared-word}
+use Rattle.partitions.proofs.Granules.{shared-word}
 use Rattle.model.specs.declared.Answer.{Answer}
 use Rattle.model.specs.declared.Command.{Command}
-use Rattle.model.specs.declared.Command.the-variants.{Read, Write, FrontRead, Digest, ReadLock, Transition, PowerUp}
 use Rattle.model.specs.Answers.{codeOf}
 use Rattle.model.specs.Lent.{Machine, Primitives}
 use Rattle.model.specs.Commands.{granule}
 use Rattle.model.specs.Step.{Step, unchanged, performed, act, powerUp, after, machineAfter, answerTo}
 use Rattle.model.specs.Terms.{Right, staysReady}
 use Rattle.model.specs.Beyond.{Targets, written, digested}
-use Rattle.model.proofs.Acts.{Burnt, unburnt, burnt, perform-once}
+use Rattle.model.proofs.Acts.{Burnt, left, unburnt, burnt, perform-once}
 use Rattle.model.proofs.Targets.{Struck, target-once}
-use Rattle.model.proofs.Frame.{Aim, aimless-word}
+use Rattle.model.proofs.Frame.{by-aim, aimless-granule}
 use Rattle.model.proofs.Steps.{after-append, outcome, step-all, after-right}
 use Rattle.model.proofs.Ready.{step-act}
 
@@ -38,6 +37,9 @@ module _ (prims : Primitives) (map : Map) (F : fit map ≡ true) where
     abbrev cells : List ℕ
     cells = m .lent .cells
 
+    abbrev answer : Answer
+    answer = outcome prims map x m .answer
+
     abbrev Result : Type 0
     Result = Burnt (Struck map at n) cells (outcome prims map x m)
 
@@ -45,19 +47,34 @@ module _ (prims : Primitives) (map : Map) (F : fit map ≡ true) where
     result = perform-once (target-once prims map F m target) (m .lent .copy) cells
 
     -- answered 0, it found its target blank
-    target-blank : codeOf (outcome prims map x m .answer) ≡ 0x00 → (j : ℕ) → at ≤ j → j < at + n → getD cells j 0 ≡ 0
+    target-blank : codeOf answer ≡ 0x00 → (j : ℕ) → at ≤ j → j < at + n → getD cells j 0 ≡ 0
     target-blank e j lo hi = go result
       where
         go : Result → getD cells j 0 ≡ 0
-        go (unburnt _ f) = absurd (eqb-false _ _ f e)
+        go (left _ f) = absurd (omega (arith, ltb-true 4 (codeOf answer) f))
+        go (unburnt _ _ _ f) = absurd (omega (arith, ap codeOf f))
         go (burnt w k f _) = done-blank _ cells _ j (rw (w .blank) at k) (rw (w .place) lo) (rw (w .place, w .size) hi)
+
+    -- answered 4, it did not
+    target-held : codeOf answer ≡ 0x04 → ((j : ℕ) → at ≤ j → j < at + n → getD cells j 0 ≡ 0) → ⊥
+    target-held e h = go result
+      where
+        go : Result → ⊥
+        go (left _ f) = omega (arith, ltb-true 4 (codeOf answer) f)
+        go (unburnt w k _ _) =
+            let d = blank-done _ _ cells _ (λ j l u. h j (rw (← w .place) l) (rw (← w .place, ← w .size) u)) in
+            let q : programmed.Refused _ ≡ programmed.Done = sym k ∙ d in
+            let z : _≡_ {A = ℕ} 0 1 = cc in
+            omega arith
+        go (burnt _ _ _ f) = omega (arith, ap codeOf f)
 
     -- a word stays that is not zero
     word-stays : (j : ℕ) → (getD cells j 0 ≡ 0 → ⊥) → getD (outcome prims map x m .cells) j 0 ≡ getD cells j 0
     word-stays j h = go result
       where
         go : Result → getD (outcome prims map x m .cells) j 0 ≡ getD cells j 0
-        go (unburnt e _) = rw e
+        go (left e _) = rw e
+        go (unburnt _ _ e _) = rw e
         go (burnt w k f _) = rw f (program-elsewhere _ cells _ _ j (λ lo hi. h (done-blank _ cells _ j (rw (w .blank) at k) lo hi)))
 
     -- and so does each word of a granule that is not blank: were one of them programmed, the granule would be the target
@@ -74,7 +91,8 @@ module _ (prims : Primitives) (map : Map) (F : fit map ≡ true) where
             blank-part cells _ _ (λ i l u. done-blank _ cells _ i (rw (w .blank) at k) (omega (arith, one .first, w .first, w .place)) (omega (arith, one .first, one .count, w .first, w .count, w .place, w .size)))
 
         go : Result → getD (outcome prims map x m .cells) j 0 ≡ getD cells j 0
-        go (unburnt e _) = rw e
+        go (left e _) = rw e
+        go (unburnt _ _ e _) = rw e
         go (burnt w k f _) = rw f (program-elsewhere _ cells _ _ j (λ lo′ hi′. h (blank w k lo′ hi′)))
 
   -- ---- in a list
@@ -89,6 +107,13 @@ module _ (prims : Primitives) (map : Map) (F : fit map ≡ true) where
   found-blank m r l x at n target e =
       let m₁ = after prims map l m in
       target-blank target m₁ (rw (step-act prims map x m₁ (after-right prims map l m r) (stays target _), answerTo) at e)
+
+  pub found-held : (m : Machine) → Right map m → (l : List Command) (x : Command) (at n : ℕ) → Targets map x at n
+      → codeOf (answerTo prims map x (after prims map l m)) ≡ 0x04 → ((j : ℕ) → at ≤ j → j < at + n → getD (after prims map l m .lent .cells) j 0 ≡ 0) → ⊥
+  unfolding act performed
+  found-held m r l x at n target e =
+      let m₁ = after prims map l m in
+      target-held target m₁ (rw (step-act prims map x m₁ (after-right prims map l m r) (stays target _), answerTo) at e)
 
   pub no-second-burn : (m : Machine) (l : List Command) (x : Command) (at n : ℕ) → Targets map x at n
       → let m₁ = after prims map l m in
@@ -109,28 +134,19 @@ module _ (prims : Primitives) (map : Map) (F : fit map ≡ true) where
     abbrev Held : List ℕ → Type 0
     Held c = granule (partitionAt map a) c a ≡ 0 → ⊥
 
-    -- a command that neither writes nor computes a digest programs no word that direct access reaches
-    aimless : (x : Command) (m : Machine) (j : ℕ) → first ≤ j → j < first + count → (Aim map x j → ⊥)
+    word-held : (m : Machine) → Held (m .lent .cells) → (x : Command) (j : ℕ) → first ≤ j → j < first + count
         → getD (outcome prims map x m .cells) j 0 ≡ getD (m .lent .cells) j 0
-    unfolding partitionAt
-    aimless x m j lo hi n = aimless-word prims map F m x j (rw (word-number map F below lo hi) direct) n
-
-    word-held : (x : Command) (m : Machine) → Held (m .lent .cells) → (j : ℕ) → first ≤ j → j < first + count
-        → getD (outcome prims map x m .cells) j 0 ≡ getD (m .lent .cells) j 0
-    word-held (Write b value) m h j lo hi = granule-stays written m a below h j lo hi
-    word-held (Digest b) m h j lo hi = granule-stays digested m a below h j lo hi
-    word-held (Read b) m h j lo hi = aimless (Read b) m j lo hi (λ z. z)
-    word-held (FrontRead b) m h j lo hi = aimless (FrontRead b) m j lo hi (λ z. z)
-    word-held (ReadLock number) m h j lo hi = aimless (ReadLock number) m j lo hi (λ z. z)
-    word-held (Transition target high low) m h j lo hi = aimless (Transition target high low) m j lo hi (λ z. z)
-    word-held PowerUp m h j lo hi = aimless PowerUp m j lo hi (λ z. z)
+    word-held m h =
+        by-aim {map = map} (λ (x : Command). (j : ℕ) → first ≤ j → j < first + count → getD (outcome prims map x m .cells) j 0 ≡ getD (m .lent .cells) j 0)
+        (λ b value. granule-stays written m a below h) (λ b. granule-stays digested m a below h)
+        (λ x n j lo hi. aimless-granule prims map F m x below direct j lo hi (n j))
 
     step-held : (x : Command) (m : Machine) → Held (m .lent .cells)
         → partAt (machineAfter prims map x m .lent .cells) first count ≡ partAt (m .lent .cells) first count
     unfolding act performed powerUp unchanged
     step-held x m h =
         step-all prims map (λ (s : Step). partAt (s .result .machine .lent .cells) first count ≡ partAt (m .lent .cells) first count) x m (λ answer. refl) refl
-        (part-same _ (m .lent .cells) first count (word-held x m h))
+        (part-same _ (m .lent .cells) first count (word-held m h x))
 
     still : (c d : List ℕ) → partAt d first count ≡ partAt c first count → Held c → Held d
     unfolding granule

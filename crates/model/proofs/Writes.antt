@@ -24,7 +24,7 @@ use Rattle.partitions.proofs.Granules.{OneGranule, scrambled-words, granule-ins
 use Rattle.partitions.specs.Map.{Map, rightsOf, numberAt, partitionAt, limit, inDigest, firstWord, wordCount}
 use Rattle.model.specs.declared.Answer.the-variants.{Done}
 use Rattle.model.specs.declared.Command.{Command}
-use Rattle.model.specs.declared.Command.the-variants.{Read, Write, FrontRead, Digest, ReadLock, Transition, PowerUp}
+use Rattle.model.specs.declared.Command.the-variants.{Read, Write, Digest, PowerUp}
 use Rattle.model.specs.Answers.{codeOf, valueOf}
 use Rattle.model.specs.Session.{sensedLocked, readLocked}
 use Rattle.model.specs.Lent.{Machine, Primitives, keyOf}
@@ -33,9 +33,9 @@ use Rattle.model.specs.Commands.{directRule, granule, storedDigest, scra
 use Rattle.model.specs.Step.{Step, unchanged, performed, act, powerUp, step, after, machineAfter, answerTo}
 use Rattle.model.specs.Terms.{Right, Cipher, Digested, spares, storedWords, usedValue, Lasts, Spared, Allowed, TakesEffect}
 use Rattle.model.specs.Demand3.{Ready}
-use Rattle.model.proofs.Acts.{Burnt, unburnt, burnt, perform-once, not-done}
+use Rattle.model.proofs.Acts.{Burnt, left, unburnt, burnt, perform-once, not-done}
 use Rattle.model.proofs.Targets.{Written, write-once}
-use Rattle.model.proofs.Frame.{Sealed, Aim, aimless-word}
+use Rattle.model.proofs.Frame.{Sealed, by-aim, aimless-granule}
 use Rattle.model.proofs.Steps.{outcome, step-all, cells-length, step-right, after-right, step-constants, after-constants}
 use Rattle.model.proofs.SecondBurns.{after-held}
 use Rattle.model.proofs.Ready.{step-act, Fresh, first-fresh, step-fresh, after-fresh}
@@ -132,28 +132,27 @@ module _ (prims : Primitives) (C : Cipher prims) (map : Map) (F : fit map ≡ tr
         let e = word-number map F below lo hi in
         true-not-false (and-both _ _ (rw e at (k .hard)) (sym (word-inside map F below lo hi .side) ∙ (rw e at (k .high)))) open?
 
-    -- and only its aim lets a command change it
-    aimless : (x : Command) (m : Machine) (j : ℕ) → first ≤ j → j < first + count → (Aim map x j → ⊥)
-        → getD (outcome prims map x m .cells) j 0 ≡ getD (m .lent .cells) j 0
-    unfolding partitionAt
-    aimless x m j lo hi n = aimless-word prims map F m x j (rw (word-number map F below lo hi) direct) n
-
-    word-stays : (x : Command) (m : Machine) → spares map a x (outcome prims map x m .answer) → (j : ℕ) → first ≤ j → j < first + count
-        → getD (outcome prims map x m .cells) j 0 ≡ getD (m .lent .cells) j 0
-    word-stays (Write b value) m sp j lo hi = go (perform-once (write-once prims map m b value) (m .lent .copy) (m .lent .cells))
+    write-stays : (m : Machine) (b value : ℕ) → spares map a (Write b value) (outcome prims map (Write b value) m .answer)
+        → (j : ℕ) → first ≤ j → j < first + count → getD (outcome prims map (Write b value) m .cells) j 0 ≡ getD (m .lent .cells) j 0
+    write-stays m b value sp j lo hi = go (perform-once (write-once prims map m b value) (m .lent .copy) (m .lent .cells))
       where
         go : Burnt (Written prims map m b value) (m .lent .cells) (outcome prims map (Write b value) m)
             → getD (outcome prims map (Write b value) m .cells) j 0 ≡ getD (m .lent .cells) j 0
-        go (unburnt e _) = rw e
+        go (left e _) = rw e
+        go (unburnt _ _ e _) = rw e
         go (burnt w k f e) =
             rw (f, w .place, w .holds) (program-elsewhere _ (m .lent .cells) _ _ j
             (λ lo′ hi′. sp (shared-word map F (w .below) below lo′ (rw length-words at hi′) lo hi .first) (ap codeOf e)))
-    word-stays (Digest b) m sp j lo hi = aimless (Digest b) m j lo hi (not-sealed j lo hi)
-    word-stays (Read b) m sp j lo hi = aimless (Read b) m j lo hi (λ z. z)
-    word-stays (FrontRead b) m sp j lo hi = aimless (FrontRead b) m j lo hi (λ z. z)
-    word-stays (ReadLock number) m sp j lo hi = aimless (ReadLock number) m j lo hi (λ z. z)
-    word-stays (Transition target high low) m sp j lo hi = aimless (Transition target high low) m j lo hi (λ z. z)
-    word-stays PowerUp m sp j lo hi = aimless PowerUp m j lo hi (λ z. z)
+
+    -- every other command aims at no word of it
+    word-stays : (m : Machine) (x : Command) → spares map a x (outcome prims map x m .answer) → (j : ℕ) → first ≤ j → j < first + count
+        → getD (outcome prims map x m .cells) j 0 ≡ getD (m .lent .cells) j 0
+    word-stays m =
+        by-aim {map = map}
+        (λ (x : Command). spares map a x (outcome prims map x m .answer) → (j : ℕ) → first ≤ j → j < first + count
+        → getD (outcome prims map x m .cells) j 0 ≡ getD (m .lent .cells) j 0)
+        (write-stays m) (λ b sp j lo hi. aimless-granule prims map F m (Digest b) below direct j lo hi (not-sealed j lo hi))
+        (λ x n sp j lo hi. aimless-granule prims map F m x below direct j lo hi (n j))
 
     step-stays : (x : Command) (m : Machine) → spares map a x (answerTo prims map x m)
         → partAt (machineAfter prims map x m .lent .cells) first count ≡ partAt (m .lent .cells) first count
@@ -161,7 +160,7 @@ module _ (prims : Primitives) (C : Cipher prims) (map : Map) (F : fit map ≡ tr
     step-stays x m =
         step-all prims map
         (λ (s : Step). spares map a x (s .result .answer) → partAt (s .result .machine .lent .cells) first count ≡ partAt (m .lent .cells) first count) x m
-        (λ answer sp. refl) (λ sp. refl) (λ sp. part-same _ (m .lent .cells) first count (word-stays x m sp))
+        (λ answer sp. refl) (λ sp. refl) (λ sp. part-same _ (m .lent .cells) first count (word-stays m x sp))
 
     -- while no write to the granule answers 0, its words stay, through power-ups and transitions too
     after-stays : (l : List Command) (m : Machine) → Spared prims map a l m
@@ -292,7 +291,7 @@ module _ (prims : Primitives) (C : Cipher prims) (map : Map) (F : fit map ≡ tr
     pub write-taken : TakesEffect prims map m₁ a value s
     write-taken = write-takes c₀ m₁ fresh a value (rw same-constants al)
 
-    -- the granule as the write left it, after l₂
+    -- commands l₂ after which the granule is as the write left it
     module _ (l₂ : List Command)
         (stays : let p = partitionAt map a in
         partAt (after prims map l₂ (s .result .machine) .lent .cells) (firstWord p a) (wordCount p a)
@@ -308,39 +307,49 @@ module _ (prims : Primitives) (C : Cipher prims) (map : Map) (F : fit map ≡ tr
           let e : m₂ .lent .constants ≡ m₁ .lent .constants = after-constants prims map l₂ (s .result .machine) ∙ step-constants prims map (Write a value) m₁ in
           rw e (stays ∙ write-taken .holds)
 
-    spared-stays : (l₂ : List Command) → Spared prims map a l₂ (s .result .machine) → let p = partitionAt map a in
-        partAt (after prims map l₂ (s .result .machine) .lent .cells) (firstWord p a) (wordCount p a)
-        ≡ partAt (s .result .machine .lent .cells) (firstWord p a) (wordCount p a)
-    spared-stays l₂ = after-stays a (al .below) (al .direct) (al .notDigest) l₂ (s .result .machine)
+      -- while Ready lasts, every read of the granule answers 0 and the data used
+      back : Lasts prims map l₂ (s .result .machine) → (b : ℕ) → b < limit map → firstWord (partitionAt map b) b ≡ firstWord (partitionAt map a) a
+          → (inDigest (partitionAt map b) b ≡ false → readLocked (m₂ .session) (numberAt map b) ≡ false)
+          → answerTo prims map (Read b) m₂ ≡ Done (usedValue map a value)
+      back lasts b low same =
+          let f = after-fresh prims map F c₀ l₂ (s .result .machine) lasts (step-fresh prims map F c₀ (Write a value) m₁ tt fresh) in
+          read-back a (al .below) (al .direct) (al .notDigest) b low same m₂ still-right value v still-held c₀ f (al .unlocked)
 
-    -- while Ready lasts, every read of the granule answers 0 and the data used
-    pub reads-back : (l₂ : List Command) → Spared prims map a l₂ (s .result .machine) → Lasts prims map l₂ (s .result .machine)
-        → let m₂ = after prims map l₂ (s .result .machine) in
-        (b : ℕ) → b < limit map → firstWord (partitionAt map b) b ≡ firstWord (partitionAt map a) a
-        → (inDigest (partitionAt map b) b ≡ false → readLocked (m₂ .session) (numberAt map b) ≡ false)
-        → answerTo prims map (Read b) m₂ ≡ Done (usedValue map a value)
-    reads-back l₂ spared lasts b low same =
-        let f = after-fresh prims map F c₀ l₂ (s .result .machine) lasts (step-fresh prims map F c₀ (Write a value) m₁ tt fresh) in
-        let k = spared-stays l₂ spared in
-        read-back a (al .below) (al .direct) (al .notDigest) b low same (m₂ l₂ k) (still-right l₂ k) value v (still-held l₂ k) c₀ f (al .unlocked)
+      -- and ever after, every read of the granule that answers 0 answers the data used
+      last : (b shown : ℕ) → firstWord (partitionAt map b) b ≡ firstWord (partitionAt map a) a
+          → answerTo prims map (Read b) m₂ ≡ Done shown → shown ≡ usedValue map a value
+      last = read-lasts a (al .below) (al .direct) (al .notDigest) m₂ still-right value v still-held
 
-    stored-number : granule (partitionAt map a) (s .result .machine .lent .cells) a ≡ numberOf (storedWords prims map (m .lent .constants) a value)
-    unfolding granule
-    stored-number = rw (write-taken .holds, same-constants)
+    module _ (l₂ : List Command) where
+      abbrev end : Machine
+      end = after prims map l₂ (s .result .machine)
 
-    -- where the stored form is not zero the granule is not blank, and is never written again
-    lasting-stays : (l₂ : List Command) → (numberOf (storedWords prims map (m .lent .constants) a value) ≡ 0 → Spared prims map a l₂ (s .result .machine))
-        → let p = partitionAt map a in
-        partAt (after prims map l₂ (s .result .machine) .lent .cells) (firstWord p a) (wordCount p a)
-        ≡ partAt (s .result .machine .lent .cells) (firstWord p a) (wordCount p a)
-    lasting-stays l₂ spared =
-        by-cases (eqb (numberOf (storedWords prims map (m .lent .constants) a value)) 0) (λ t. spared-stays l₂ (spared (eqb-true _ _ t)))
-        (λ t. after-held prims map F a (al .below) (al .direct) l₂ (s .result .machine) (λ z. eqb-false _ _ t (sym stored-number ∙ z)))
+      abbrev Stays : Type 0
+      Stays =
+          let p = partitionAt map a in
+          partAt (end .lent .cells) (firstWord p a) (wordCount p a) ≡ partAt (s .result .machine .lent .cells) (firstWord p a) (wordCount p a)
 
-    -- and ever after, every read of the granule that answers 0 answers the data used
-    pub reads-last : (l₂ : List Command) → (numberOf (storedWords prims map (m .lent .constants) a value) ≡ 0 → Spared prims map a l₂ (s .result .machine))
-        → (b shown : ℕ) → firstWord (partitionAt map b) b ≡ firstWord (partitionAt map a) a
-        → answerTo prims map (Read b) (after prims map l₂ (s .result .machine)) ≡ Done shown → shown ≡ usedValue map a value
-    reads-last l₂ spared =
-        let k = lasting-stays l₂ spared in
-        read-lasts a (al .below) (al .direct) (al .notDigest) (m₂ l₂ k) (still-right l₂ k) value v (still-held l₂ k)
+      -- it is, where no other write to it answers 0
+      spared-stays : Spared prims map a l₂ (s .result .machine) → Stays
+      spared-stays = after-stays a (al .below) (al .direct) (al .notDigest) l₂ (s .result .machine)
+
+      stored-number : granule (partitionAt map a) (s .result .machine .lent .cells) a ≡ numberOf (storedWords prims map (m .lent .constants) a value)
+      unfolding granule
+      stored-number = rw (write-taken .holds, same-constants)
+
+      -- and always, where the stored form is not zero: the granule is not blank
+      lasting-stays : (numberOf (storedWords prims map (m .lent .constants) a value) ≡ 0 → Spared prims map a l₂ (s .result .machine)) → Stays
+      lasting-stays spared =
+          by-cases (eqb (numberOf (storedWords prims map (m .lent .constants) a value)) 0) (λ t. spared-stays (spared (eqb-true _ _ t)))
+          (λ t. after-held prims map F a (al .below) (al .direct) l₂ (s .result .machine) (λ z. eqb-false _ _ t (sym stored-number ∙ z)))
+
+      pub reads-back : Spared prims map a l₂ (s .result .machine) → Lasts prims map l₂ (s .result .machine)
+          → (b : ℕ) → b < limit map → firstWord (partitionAt map b) b ≡ firstWord (partitionAt map a) a
+          → (inDigest (partitionAt map b) b ≡ false → readLocked (end .session) (numberAt map b) ≡ false)
+          → answerTo prims map (Read b) end ≡ Done (usedValue map a value)
+      reads-back spared = back l₂ (spared-stays spared)
+
+      pub reads-last : (numberOf (storedWords prims map (m .lent .constants) a value) ≡ 0 → Spared prims map a l₂ (s .result .machine))
+          → (b shown : ℕ) → firstWord (partitionAt map b) b ≡ firstWord (partitionAt map a) a
+          → answerTo prims map (Read b) end ≡ Done shown → shown ≡ usedValue map a value
+      reads-last spared = last l₂ (lasting-stays spared)

@@ -53,15 +53,19 @@ module _ (prims : Primitives) (map : Map) where
         → Puts map n digest x (answerTo prims map x (after prims map l₁ m)) → Source m l n digest
 
   pub record Beyond : Type 0 where
-    -- nothing is burnt twice. A direct access write or digest command that answers 0, wherever in a list, found each word of its target granule zero;
-    pub blanks : (m : Machine) → Right map m → (l : List Command) (x : Command) (at n : ℕ) → Targets map x at n
+    -- Nothing is burnt twice. A direct access write or digest command that answers 0, wherever in a list, found every word of its target granule zero;
+    -- one that answers 4 did not.
+    pub taken : (m : Machine) → Right map m → (l : List Command) (x : Command) (at n : ℕ) → Targets map x at n
         → let m₁ = after prims map l m in
         codeOf (answerTo prims map x m₁) ≡ 0x00 → (j : ℕ) → at ≤ j → j < at + n → getD (m₁ .lent .cells) j 0 ≡ 0
-    -- whatever it answers, it changes no word that is not zero;
+    pub refused : (m : Machine) → Right map m → (l : List Command) (x : Command) (at n : ℕ) → Targets map x at n
+        → let m₁ = after prims map l m in
+        codeOf (answerTo prims map x m₁) ≡ 0x04 → ((j : ℕ) → at ≤ j → j < at + n → getD (m₁ .lent .cells) j 0 ≡ 0) → ⊥
+    -- Whatever it answers, it changes no word that is not zero.
     pub burns : (m : Machine) (l : List Command) (x : Command) (at n : ℕ) → Targets map x at n
         → let m₁ = after prims map l m in
         (j : ℕ) → (getD (m₁ .lent .cells) j 0 ≡ 0 → ⊥) → getD (machineAfter prims map x m₁ .lent .cells) j 0 ≡ getD (m₁ .lent .cells) j 0
-    -- and a granule that direct access reaches and that is not blank never changes, whatever follows
+    -- A granule that direct access reaches, once it is not blank, never changes, whatever follows.
     pub granules : (m : Machine) (a : ℕ) → a < limit map → rightsOf (partitionAt map a .kind) .direct ≡ true → (l₁ l₂ : List Command)
         → let p = partitionAt map a in
         (granule p (after prims map l₁ m .lent .cells) a ≡ 0 → ⊥)

@@ -1,5 +1,5 @@
 -- Laws of programming, by any rule of refusal. The idea: the answer goes word by word from the lowest, so each law is an induction on the value.
-use mathlib.Core.Path.{_≡_, refl, sym, ap, ap₂, _∙_}
+use mathlib.Core.Path.{_≡_, refl, sym, ap₂, _∙_}
 use mathlib.Core.Bool.{true, false}
 use mathlib.Core.List.{List, [], _∷_}
 use Prim.Native.Nat.{ℕ, zero, suc, _+_, _-_, _≤_, _<_}
@@ -163,7 +163,7 @@ module _ (rule : Rule) where
   program-kept c vs at =
       by-answer (programAnswer rule c at vs) (λ e. rw (stored-done c vs at e) (kept-sets vs c at e)) (λ i e. rw (stored-refused c vs at i e) kept-refl)
 
--- ---- each rule's own
+-- ---- where a value is taken
 
 -- by `KeepBits` a value is taken where no word of the part loses a bit
 pub covered-done : (vs c : List ℕ) (at : ℕ) → ((i : ℕ) → i < length vs → losesBit (getD (partAt c at (length vs)) i 0) (getD vs i 0) ≡ false)
@@ -173,7 +173,14 @@ covered-done [] c at h = refl
 covered-done (v ∷ vs) c at h =
     answer-next KeepBits c vs at v (kept-passes _ v (h 0 (omega arith))) ∙ covered-done vs c (suc at) (λ i l. h (suc i) (omega arith))
 
--- by `BlankOnly` it is taken in a blank part alone
+-- by any rule it is taken in a blank part, and by `BlankOnly` there alone
+pub blank-done : (rule : Rule) (vs c : List ℕ) (at : ℕ) → ((j : ℕ) → at ≤ j → j < at + length vs → getD c j 0 ≡ 0) → programAnswer rule c at vs ≡ Done
+unfolding programAnswer
+blank-done rule [] c at h = refl
+blank-done rule (v ∷ vs) c at h =
+    answer-next rule c vs at v (rw (h at (omega arith) (omega arith)) (blank-passes rule v))
+    ∙ blank-done rule vs c (suc at) (λ j l u. h j (omega arith) (omega arith))
+
 pub done-blank : (vs c : List ℕ) (at j : ℕ) → programAnswer BlankOnly c at vs ≡ Done → at ≤ j → j < at + length vs → getD c j 0 ≡ 0
 done-blank vs c at j e l u =
     let q : at + (j - at) ≡ j = omega arith in

@@ -1,9 +1,6 @@
 -- Each case is its rule: for `KeepBits`, `stored | value` is the value exactly where no bit is lost.
-use mathlib.Core.Path.{_≡_, refl, ap, sym, _∙_}
-use mathlib.Core.Bool.{not}
 use native.Mathlib.Omega.{arith}
 use borrow.Author.Needs.{needs}
-use Rattle.words.specs.Programming.{refuses}
 use Rattle.words.proofs.Rules.{or-refuses, blank-refuses}
 use Rattle.words.proofs.refuses.Statement.{statement}
 use Rattle.words.proofs.refuses.Tie as tie
