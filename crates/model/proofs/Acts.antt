@@ -25,6 +25,10 @@ unfolding afterProgram
 after-both Q programmed.Done next refused f g = f refl
 after-both Q (programmed.Refused cell) next refused f g = g cell refl
 
+pub after-done : {r : Programmed} (next : Performed) (refused : ℕ → Performed) → r ≡ programmed.Done → afterProgram r next refused ≡ next
+unfolding afterProgram
+after-done next refused e = rw e
+
 -- ---- bits, lengths
 
 pub perform-kept : (x : Act) (copy cells : List ℕ) → Kept cells (perform x copy cells .cells)

@@ -28,12 +28,12 @@ use Rattle.model.specs.declared.Command.the-variants.{Read, Write, Diges
 use Rattle.model.specs.Answers.{codeOf, valueOf}
 use Rattle.model.specs.Session.{sensedLocked, readLocked}
 use Rattle.model.specs.Lent.{Machine, Primitives, keyOf}
-use Rattle.model.specs.Acts.{stay, Act, say, afterProgram, perform}
+use Rattle.model.specs.Acts.{stay, Act, say, perform}
 use Rattle.model.specs.Commands.{directRule, granule, storedDigest, scrambled, unscrambled, writeAct, readAct, commandAct, readyAct}
 use Rattle.model.specs.Step.{Step, unchanged, performed, act, powerUp, step, after, machineAfter, answerTo}
 use Rattle.model.specs.Terms.{Right, Cipher, Digested, spares, storedWords, usedValue, Lasts, Spared, Allowed, TakesEffect}
 use Rattle.model.specs.Demand3.{Ready}
-use Rattle.model.proofs.Acts.{Burnt, left, unburnt, burnt, perform-once, not-done}
+use Rattle.model.proofs.Acts.{after-done, Burnt, left, unburnt, burnt, perform-once, not-done}
 use Rattle.model.proofs.Targets.{Written, write-once}
 use Rattle.model.proofs.Frame.{Sealed, by-aim, aimless-granule}
 use Rattle.model.proofs.Steps.{outcome, step-all, cells-length, step-right, after-right, step-constants, after-constants}
@@ -90,12 +90,12 @@ module _ (prims : Primitives) (C : Cipher prims) (map : Map) (F : fit map ≡ tr
         turn = stay;
         compared = [];
       }
-  unfolding readyAct commandAct writeAct perform afterProgram
+  unfolding readyAct commandAct writeAct perform
   write-performed c₀ m f a value al =
       ap (λ (x : Act). perform x (m .lent .copy) (m .lent .cells))
       (if-false _ _ (ap not (f .awake)) ∙ if-false _ _ (lt-leb _ _ (al .below)) ∙ if-false _ _ (ap not (al .direct)) ∙ if-false _ _ (al .notDigest)
       ∙ if-false _ _ (not-sensed c₀ m f a (al .below) (al .direct) (al .unlocked)))
-      ∙ rw (al .blank)
+      ∙ after-done _ _ (al .blank)
 
   pub write-takes : (c₀ : List ℕ) (m : Machine) → Fresh map c₀ m → (a value : ℕ) → Allowed prims map (m .lent .constants) c₀ (m .lent .cells) a value
       → TakesEffect prims map m a value (step prims map (Write a value) m)
