@@ -88,7 +88,8 @@ module _ (prims : Primitives) (map : Map) (F : fit map ≡ true) where
             → programAnswer rule cells from words ≡ programmed.Done → from ≤ j → j < from + length words → granule (partitionAt map a) cells a ≡ 0
         blank w k lo′ hi′ =
             let one = shared-word map F below (w .below) lo hi (rw (← w .first, ← w .place) lo′) (rw (← w .first, ← w .count, ← w .place, ← w .size) hi′) in
-            blank-part cells _ _ (λ i l u. done-blank _ cells _ i (rw (w .blank) at k) (omega (arith, one .first, w .first, w .place)) (omega (arith, one .first, one .count, w .first, w .count, w .place, w .size)))
+            blank-part cells _ _ (λ i l u. done-blank _ cells _ i (rw (w .blank) at k) (omega (arith, one .first, w .first, w .place))
+            (omega (arith, one .first, one .count, w .first, w .count, w .place, w .size)))
 
         go : Result → getD (outcome prims map x m .cells) j 0 ≡ getD cells j 0
         go (left e _) = rw e

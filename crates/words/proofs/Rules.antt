@@ -52,7 +52,17 @@ keeps-or a b l e = or-covered 16 a b l (λ i h. keeps-bit a b i e h)
 blank-loses : (v : ℕ) → losesBit 0 v ≡ false
 blank-loses v = or-keeps 0 v (or-zero-l v)
 
--- All that the laws below ask of a rule: a blank word takes every value, and a word that takes its value loses no bit.
+-- `BlankOnly` takes a value in a blank word alone
+pub blank-passed : (s v : ℕ) → refuses BlankOnly s v ≡ false → s ≡ 0
+unfolding refuses
+blank-passed s v e = eqb-true s 0 (not-false _ e)
+
+-- `KeepBits` refuses no word that loses no bit
+pub kept-passes : (s v : ℕ) → losesBit s v ≡ false → refuses KeepBits s v ≡ false
+unfolding refuses
+kept-passes s v e = e
+
+-- All that the laws of programming ask of a rule: a blank word takes every value, and a word that takes its value loses no bit.
 pub blank-passes : (rule : Rule) (v : ℕ) → refuses rule 0 v ≡ false
 unfolding refuses
 blank-passes KeepBits v = blank-loses v
@@ -61,17 +71,7 @@ blank-passes BlankOnly v = refl
 pub passed-keeps : (rule : Rule) (s v : ℕ) → refuses rule s v ≡ false → losesBit s v ≡ false
 unfolding refuses
 passed-keeps KeepBits s v e = e
-passed-keeps BlankOnly s v e = rw (eqb-true s 0 (not-false _ e)) (blank-loses v)
-
--- `KeepBits` refuses no word that loses no bit
-pub kept-passes : (s v : ℕ) → losesBit s v ≡ false → refuses KeepBits s v ≡ false
-unfolding refuses
-kept-passes s v e = e
-
--- `BlankOnly` takes a value in a blank word alone
-pub blank-passed : (s v : ℕ) → refuses BlankOnly s v ≡ false → s ≡ 0
-unfolding refuses
-blank-passed s v e = eqb-true s 0 (not-false _ e)
+passed-keeps BlankOnly s v e = rw (blank-passed s v e) (blank-loses v)
 
 -- ---- as code tests them
 

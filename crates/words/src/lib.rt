@@ -76,7 +76,7 @@ fn refuses(rule: Rule, stored: u16, value: u16) -> bool
     ensures { λ r. ⌜ r ≡ refuses rule stored value ⌝ }
 {
     match rule {
-        Rule::KeepBits => stored | value != value,
+        Rule::KeepBits => (stored | value) != value,
         Rule::BlankOnly => stored != 0,
     }
 }
