@@ -29,7 +29,7 @@ use Rattle.model.specs.Cases.{blank, number, blankDigest}
 use Rattle.model.specs.Terms.{Right, Cipher, Digested, storedWords, Lasts, Spared, usedValue, Allowed, Matched, HiddenWord, Alike}
 use Rattle.model.specs.Demand3.{Demand3, Ready}
 use Rattle.model.specs.Session.{readLocked}
-use Rattle.model.specs.Beyond.{Beyond, written, Puts, writes, Source, put, stays, moves}
+use Rattle.model.specs.Beyond.{Beyond, writing, digesting, Puts, writes, Source, put, stays, moves}
 use Rattle.model.proofs.Everything.{everything}
 use Rattle.model.proofs.ToyChip.{toyWith, toy, off, tested}
 use Rattle.model.proofs.Theorems.{refusals, demand3, beyond}
@@ -146,7 +146,12 @@ zero-on = toy-beyond .lasting (off blank) (right blank refl) [] [] woken 0x003 0
 
 found-word : getD (after toy map1 (PowerUp ∷ []) (off blank) .lent .cells) 1 0 ≡ 0
 found-word =
-    toy-beyond .taken (off blank) (right blank refl) (PowerUp ∷ []) (Write 0x003 0x55) 0 2 (unfold everything in written) (unfold everything in refl) 1 (omega arith) (lit< tt)
+    toy-beyond .taken (off blank) (right blank refl) (PowerUp ∷ []) (Write 0x003 0x55) 0 2 (unfold everything in writing) (unfold everything in refl) 1 (omega arith) (lit< tt)
+
+-- a digest command found the four words of HW_CFG's digest blank
+found-digest : getD (after toy map1 (PowerUp ∷ []) (off blank) .lent .cells) 295 0 ≡ 0
+found-digest =
+    toy-beyond .taken (off blank) (right blank refl) (PowerUp ∷ []) (Digest 0x200) 292 4 (unfold everything in digesting) (unfold everything in refl) 295 (omega arith) (lit< tt)
 
 again-refused : codeOf (answerTo toy map1 (Write 0x003 0x55) wrote) ≡ 0x04
 unfolding everything wrote
@@ -155,7 +160,7 @@ again-refused = refl
 not-blank : ((j : ℕ) → 0 ≤ j → j < 2 → getD (wrote .lent .cells) j 0 ≡ 0) → ⊥
 unfolding wrote after
 not-blank =
-    toy-beyond .refused (off blank) (right blank refl) (PowerUp ∷ Write 0x003 0x55 ∷ []) (Write 0x003 0x55) 0 2 (unfold everything in written) (unfold wrote in again-refused)
+    toy-beyond .refused (off blank) (right blank refl) (PowerUp ∷ Write 0x003 0x55 ∷ []) (Write 0x003 0x55) 0 2 (unfold everything in writing) (unfold wrote in again-refused)
 
 burnt-word : getD (wrote .lent .cells) 0 0 ≡ 0x55
 unfolding everything wrote
@@ -163,7 +168,7 @@ burnt-word = refl
 
 word-left : getD (machineAfter toy map1 (Write 0x003 0xFF) wrote .lent .cells) 0 0 ≡ getD (wrote .lent .cells) 0 0
 unfolding after
-word-left = toy-beyond .burns wrote [] (Write 0x003 0xFF) 0 2 (unfold everything in written) 0 (λ z. omega (arith, burnt-word))
+word-left = toy-beyond .burns wrote [] (Write 0x003 0xFF) 0 2 (unfold everything in writing) 0 (λ z. omega (arith, burnt-word))
 
 granule-held : granule (partitionAt map1 0x001) (wrote .lent .cells) 0x001 ≡ 0x55
 unfolding everything wrote

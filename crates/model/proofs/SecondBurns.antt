@@ -23,7 +23,7 @@ use Rattle.model.specs.Lent.{Machine, Primitives}
 use Rattle.model.specs.Commands.{granule}
 use Rattle.model.specs.Step.{Step, unchanged, performed, act, powerUp, after, machineAfter, answerTo}
 use Rattle.model.specs.Terms.{Right, staysReady}
-use Rattle.model.specs.Beyond.{Targets, written, digested}
+use Rattle.model.specs.Beyond.{Targets, writing, digesting}
 use Rattle.model.proofs.Acts.{Burnt, left, unburnt, burnt, perform-once}
 use Rattle.model.proofs.Targets.{Struck, target-once}
 use Rattle.model.proofs.Frame.{by-aim, aimless-granule}
@@ -99,8 +99,8 @@ module _ (prims : Primitives) (map : Map) (F : fit map ≡ true) where
   -- ---- in a list
 
   stays : {x : Command} {at n : ℕ} → Targets map x at n → (answer : Answer) → staysReady x answer
-  stays written answer = tt
-  stays digested answer = tt
+  stays writing answer = tt
+  stays digesting answer = tt
 
   pub found-blank : (m : Machine) → Right map m → (l : List Command) (x : Command) (at n : ℕ) → Targets map x at n
       → codeOf (answerTo prims map x (after prims map l m)) ≡ 0x00 → (j : ℕ) → at ≤ j → j < at + n → getD (after prims map l m .lent .cells) j 0 ≡ 0
@@ -139,7 +139,7 @@ module _ (prims : Primitives) (map : Map) (F : fit map ≡ true) where
         → getD (outcome prims map x m .cells) j 0 ≡ getD (m .lent .cells) j 0
     word-held m h =
         by-aim {map = map} (λ (x : Command). (j : ℕ) → first ≤ j → j < first + count → getD (outcome prims map x m .cells) j 0 ≡ getD (m .lent .cells) j 0)
-        (λ b value. granule-stays written m a below h) (λ b. granule-stays digested m a below h)
+        (λ b value. granule-stays writing m a below h) (λ b. granule-stays digesting m a below h)
         (λ x n j lo hi. aimless-granule prims map F m x below direct j lo hi (n j))
 
     step-held : (x : Command) (m : Machine) → Held (m .lent .cells)

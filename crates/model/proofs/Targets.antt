@@ -20,7 +20,7 @@ use Rattle.model.specs.declared.Command.the-variants.{Write, Digest}
 use Rattle.model.specs.Lent.{Machine, Primitives}
 use Rattle.model.specs.Commands.{directRule, writeAct, digestAct, commandAct, readyAct}
 use Rattle.model.specs.Terms.{storedWords}
-use Rattle.model.specs.Beyond.{Targets, written, digested}
+use Rattle.model.specs.Beyond.{Targets, writing, digesting}
 use Rattle.model.proofs.Acts.{Once, refuses, burns, once-if, once-map}
 
 module _ (prims : Primitives) (map : Map) (m : Machine) (a : ℕ) where
@@ -94,5 +94,5 @@ module _ (prims : Primitives) (map : Map) (F : fit map ≡ true) (m : Machine) w
       }
 
   pub target-once : {x : Command} {at n : ℕ} → Targets map x at n → Once (Struck map at n) (readyAct prims map m x)
-  target-once (written {a} {value}) = once-map (λ rule at words value. written-struck) (write-once prims map m a value)
-  target-once (digested {a}) = once-map (λ rule at words value. computed-struck) (digest-once prims map m a)
+  target-once (writing {a} {value}) = once-map (λ rule at words value. written-struck) (write-once prims map m a value)
+  target-once (digesting {a}) = once-map (λ rule at words value. computed-struck) (digest-once prims map m a)

@@ -33,8 +33,8 @@ pub data Course (x : LifeCycle) : LifeCycle → Type 0 where
 
 -- the target granule of a direct access write, or of a digest command: its first word, and how many there are
 pub data Targets (map : Map) : Command → ℕ → ℕ → Type 0 where
-  written : {a value : ℕ} → Targets map (Write a value) (firstWord (partitionAt map a) a) (wordCount (partitionAt map a) a)
-  digested : {a : ℕ} → Targets map (Digest a) (partitionAt map a .digest / 2) 4
+  writing : {a value : ℕ} → Targets map (Write a value) (firstWord (partitionAt map a) a) (wordCount (partitionAt map a) a)
+  digesting : {a : ℕ} → Targets map (Digest a) (partitionAt map a .digest / 2) 4
 
 -- the command puts a number of 64 bits in the digest of partition n, whole: a write of it there, or a digest command that answers it; and it answers 0
 pub data Puts (map : Map) (n digest : ℕ) : Command → Answer → Type 0 where
