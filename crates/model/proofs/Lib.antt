@@ -2,6 +2,7 @@ pub mod Acts
 pub mod Transitions
 pub mod Frame
 pub mod Steps
+pub mod Obeyed
 pub mod Locks
 pub mod Targets
 pub mod Digests

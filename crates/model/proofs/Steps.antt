@@ -73,9 +73,13 @@ module _ (prims : Primitives) (map : Map) where
   step-all Q x m u h f = step-both Q x m u (obey-both (λ s _. Q s) x m m h f)
 
   -- with right lengths and valid constants the command is obeyed
-  pub step-obeys : (x : Command) (m : Machine) → Right map m → step prims map x m ≡ obey prims map x m
+  pub judged-obeys : (x : Command) (m : Machine) → rightLengths map (m .lent) ≡ true → validConstants (m .lent .constants) ≡ true
+      → step prims map x m ≡ obey prims map x m
   unfolding step
-  step-obeys x m r = rw (r .lengths, r .valid) (if-false _ _ refl ∙ if-false _ _ refl)
+  judged-obeys x m e v = rw (e, v) (if-false _ _ refl ∙ if-false _ _ refl)
+
+  pub step-obeys : (x : Command) (m : Machine) → Right map m → step prims map x m ≡ obey prims map x m
+  step-obeys x m r = judged-obeys x m (r .lengths) (r .valid)
 
   pub step-up : (m : Machine) → Right map m → step prims map PowerUp m ≡ powerUp prims map m
   unfolding obey
@@ -109,31 +113,36 @@ module _ (prims : Primitives) (map : Map) where
   pub cells-length : (m : Machine) → Right map m → length (m .lent .cells) ≡ limit map / 2
   cells-length m r = lengths-of (m .lent) (r .lengths) .0
 
-  pub copy-length : (m : Machine) → Right map m → length (m .lent .copy) ≡ limit map / 2
-  copy-length m r = lengths-of (m .lent) (r .lengths) .1
-
-  pub constants-length : (m : Machine) → Right map m → length (m .lent .constants) ≡ 132
-  constants-length m r = lengths-of (m .lent) (r .lengths) .2
-
-  right-again : (m : Machine) → Right map m → (c k : List ℕ) → length c ≡ limit map / 2 → length k ≡ limit map / 2
-      → rightLengths map (record { cells = c; copy = k; constants = m .lent .constants }) ≡ true
+  lengths-again : (l : Lent) → rightLengths map l ≡ true → (c k : List ℕ) → length c ≡ limit map / 2 → length k ≡ limit map / 2
+      → rightLengths map (record { cells = c; copy = k; constants = l .constants }) ≡ true
   unfolding rightLengths
-  right-again m r c k e f = rw (eq-eqb _ _ e, eq-eqb _ _ f, eq-eqb _ _ (constants-length m r))
+  lengths-again l r c k e f = rw (eq-eqb _ _ e, eq-eqb _ _ f, eq-eqb _ _ (lengths-of l r .2))
 
   woken-length : (w : Waking) (l : Lent) → length (wokenCopy prims map w l) ≡ limit map / 2
   unfolding wokenCopy
   woken-length (fails reason answer) l = length-listed _ 0 _
   woken-length (wakes state count) l = length-listed _ 0 _
 
+  up-lengths : (m : Machine) → rightLengths map (m .lent) ≡ true → rightLengths map (poweredUp m .lent) ≡ true
+  unfolding powerUp
+  up-lengths m e = lengths-again (m .lent) e (m .lent .cells) _ (lengths-of (m .lent) e .0) (woken-length _ (m .lent))
+
+  act-lengths : (x : Command) (m : Machine) → rightLengths map (m .lent) ≡ true → rightLengths map (acted x m .lent) ≡ true
+  unfolding act performed
+  act-lengths x m e =
+      let same = perform-length _ (m .lent .copy) (m .lent .cells) ∙ lengths-of (m .lent) e .0 in
+      lengths-again (m .lent) e _ (m .lent .copy) same (lengths-of (m .lent) e .1)
+
+  pub obey-lengths : (x : Command) (m : Machine) → rightLengths map (m .lent) ≡ true → rightLengths map (obey prims map x m .result .machine .lent) ≡ true
+  obey-lengths x m e = obey-both (λ s _. rightLengths map (s .result .machine .lent) ≡ true) x m m (up-lengths m e) (act-lengths x m e)
+
   pub up-right : (m : Machine) → Right map m → Right map (poweredUp m)
   unfolding powerUp
-  up-right m r = record { lengths = right-again m r (m .lent .cells) _ (cells-length m r) (woken-length _ (m .lent)); valid = r .valid; words = r .words }
+  up-right m r = record { lengths = up-lengths m (r .lengths); valid = r .valid; words = r .words }
 
   pub act-right : (x : Command) (m : Machine) → Right map m → Right map (acted x m)
   unfolding act performed
-  act-right x m r =
-      let same = perform-length _ (m .lent .copy) (m .lent .cells) ∙ cells-length m r in
-      record { lengths = right-again m r _ (m .lent .copy) same (copy-length m r); valid = r .valid; words = r .words }
+  act-right x m r = record { lengths = act-lengths x m (r .lengths); valid = r .valid; words = r .words }
 
   pub step-right : (x : Command) (m : Machine) → Right map m → Right map (machineAfter prims map x m)
   unfolding unchanged
@@ -145,6 +154,10 @@ module _ (prims : Primitives) (map : Map) where
   after-right (x ∷ l) m r = after-right l (machineAfter prims map x m) (step-right x m r)
 
   -- nobody writes the constants
+  pub obey-constants : (x : Command) (m : Machine) → obey prims map x m .result .machine .lent .constants ≡ m .lent .constants
+  unfolding act performed powerUp
+  obey-constants x m = obey-both (λ s _. s .result .machine .lent .constants ≡ m .lent .constants) x m m refl refl
+
   pub step-constants : (x : Command) (m : Machine) → machineAfter prims map x m .lent .constants ≡ m .lent .constants
   unfolding act performed powerUp unchanged
   step-constants x m = step-all (λ (s : Step). s .result .machine .lent .constants ≡ m .lent .constants) x m (λ a. refl) refl refl

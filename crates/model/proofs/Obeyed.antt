@@ -1,0 +1,38 @@
+-- Lists of commands with what is lent judged once, before the first: computed rows are cheaper so. The idea: lengths and constants that are right stay right,
+-- so that every command is obeyed.
+use mathlib.Core.Path.{_≡_, refl, ap, _∙_}
+use mathlib.Core.Bool.{true}
+use mathlib.Core.List.{List, [], _∷_}
+use Rattle.partitions.specs.Map.{Map}
+use Rattle.life_cycle.specs.Constants.{validConstants}
+use Rattle.model.specs.declared.Answer.{Answer}
+use Rattle.model.specs.declared.Command.{Command}
+use Rattle.model.specs.Lent.{Machine, Primitives, rightLengths}
+use Rattle.model.specs.Step.{Step, obey, after, answers}
+use Rattle.model.proofs.Steps.{judged-obeys, obey-lengths, obey-constants}
+
+module _ (prims : Primitives) (map : Map) where
+  unfoldable pub obeyed : List Command → Machine → Machine
+  obeyed [] m = m
+  obeyed (x ∷ l) m = obeyed l (obey prims map x m .result .machine)
+
+  unfoldable pub obeyedAnswers : List Command → Machine → List Answer
+  obeyedAnswers [] m = []
+  obeyedAnswers (x ∷ l) m = obey prims map x m .result .answer ∷ obeyedAnswers l (obey prims map x m .result .machine)
+
+  pub after-obeyed : (l : List Command) (m : Machine) → rightLengths map (m .lent) ≡ true → validConstants (m .lent .constants) ≡ true
+      → after prims map l m ≡ obeyed l m
+  unfolding after obeyed
+  after-obeyed [] m e v = refl
+  after-obeyed (x ∷ l) m e v =
+      ap (λ (s : Step). after prims map l (s .result .machine)) (judged-obeys prims map x m e v)
+      ∙ after-obeyed l _ (obey-lengths prims map x m e) (rw (obey-constants prims map x m) v)
+
+  pub answers-obeyed : (l : List Command) (m : Machine) → rightLengths map (m .lent) ≡ true → validConstants (m .lent .constants) ≡ true
+      → answers prims map l m ≡ obeyedAnswers l m
+  unfolding answers obeyedAnswers
+  answers-obeyed [] m e v = refl
+  answers-obeyed (x ∷ l) m e v =
+      ap (λ (s : Step). s .result .answer ∷ answers prims map l (s .result .machine)) (judged-obeys prims map x m e v)
+      ∙ ap (λ (k : List Answer). obey prims map x m .result .answer ∷ k)
+      (answers-obeyed l _ (obey-lengths prims map x m e) (rw (obey-constants prims map x m) v))
