@@ -141,7 +141,7 @@ pub fn read(
     }
 }
 
-// Write: programs the granule of an address; a 4-byte granule uses the low half of the value.
+// Write: programs the granule of an address, if it is blank; a 4-byte granule uses the low half of the value.
 pub fn write(
     cells: &mut [u16],
     copy: &[u16],
@@ -203,7 +203,7 @@ pub fn front_read(
     }
 }
 
-// Digest: computed over the stored data words of the partition that starts at the address, programmed, and answered.
+// Digest: computed over the stored data words of the partition that starts at the address, programmed if its location is blank, and answered.
 pub fn digest(
     cells: &mut [u16],
     copy: &[u16],

@@ -3,7 +3,8 @@ use Prim.Native.Nat.{ℕ}
 use Rattle.model.specs.declared.Answer.{Answer}
 use Rattle.model.specs.declared.Answer.the-variants.{Done, NotBlank, Denied, DigestFailed, NotReady, LifeCycleFailed, WrongLength, UnknownTarget, InvalidConstants, StrokesUsed, NotInTable, TokenNotLocked, TokenDiffers}
 
--- the table of codes; 7 is given for two reasons, `NotReady` and `LifeCycleFailed`
+-- the table of codes; 7 is given for two reasons, `NotReady` and `LifeCycleFailed`. `NotBlank`, "a programmed bit would be cleared": or would be burnt a
+-- second time (request Three).
 abbrev pub codeOf : Answer → ℕ
 codeOf (Done value) = 0x00
 codeOf (NotBlank cell) = 0x04

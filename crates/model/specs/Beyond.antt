@@ -61,7 +61,7 @@ module _ (prims : Primitives) (map : Map) where
     pub refused : (m : Machine) → Right map m → (l : List Command) (x : Command) (at n : ℕ) → Targets map x at n
         → let m₁ = after prims map l m in
         codeOf (answerTo prims map x m₁) ≡ 0x04 → ((j : ℕ) → at ≤ j → j < at + n → getD (m₁ .lent .cells) j 0 ≡ 0) → ⊥
-    -- Whatever it answers, it changes no word that is not zero.
+    -- Whatever it answers, and whatever the list, it changes no word that is not zero.
     pub burns : (m : Machine) (l : List Command) (x : Command) (at n : ℕ) → Targets map x at n
         → let m₁ = after prims map l m in
         (j : ℕ) → (getD (m₁ .lent .cells) j 0 ≡ 0 → ⊥) → getD (machineAfter prims map x m₁ .lent .cells) j 0 ≡ getD (m₁ .lent .cells) j 0
