@@ -8,7 +8,7 @@ use Rattle.partitions.specs.Map1.{map1}
 use Rattle.life_cycle.specs.Constants.{validConstants}
 use Rattle.model.specs.Lent.{Machine, Primitives, rightLengths}
 use Rattle.model.specs.Cases.{Case, paper, bothSides, hardware, secondBurn, table, constants, chip, said, leaves, Hold, blankDigest}
-use Rattle.model.proofs.Obeyed.{obeyed, obeyedAnswers, after-obeyed, answers-obeyed}
+use Rattle.model.proofs.Obeyed.{obeyed, obeyedAnswers, run-obeyed}
 use Rattle.model.proofs.Everything.{everything}
 
 infixr 2 _&_
@@ -37,13 +37,9 @@ module _ (prims : Primitives) (keys : ℕ → ℕ) where
   held (c ∷ cs) h =
       let m = chip prims keys (c .cells) in
       let r = h .0 in
-      let cells = ap (λ (n : Machine). n .lent .cells) (after-obeyed prims map1 (c .commands) m (r .0) valid) in (
-        (
-          ap (map (said prims keys)) (answers-obeyed prims map1 (c .commands) m (r .0) valid) ∙ r .1,
-          subst (leaves prims keys (c .left)) (sym cells) (r .2),
-        ),
-        held cs (h .1),
-      )
+      let q = run-obeyed prims map1 (c .commands) m (r .0) valid in
+      let cells = ap (λ (n : Machine). n .lent .cells) (q .1) in
+      ((ap (map (said prims keys)) (q .0) ∙ r .1, subst (leaves prims keys (c .left)) (sym cells) (r .2)), held cs (h .1))
 
   rows-append : (xs ys : List Case) → Rows xs → Rows ys → Rows (xs ++ ys)
   rows-append [] ys h k = k

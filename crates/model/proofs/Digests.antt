@@ -140,7 +140,7 @@ module _ (prims : Primitives) (map : Map) (F : fit map ≡ true) (n : ℕ) (D : 
   aimless x m h = kept (digest-same _ _ (λ j w. aimless-word prims map F m x j (rw (partition-at map (2 * j) (word-at j w)) (D .direct)) (h j)))
 
   command-changes : (m : Machine) → Right map m → (x : Command) → Changes x m
-  command-changes m r = by-aim {map = map} (λ (x : Command). Changes x m) (write-changes m r) (digest-changes m r) (λ x h. aimless x m h)
+  command-changes m r = by-aim map (λ (x : Command). Changes x m) (write-changes m r) (digest-changes m r) (λ x h. aimless x m h)
 
   step-changes : (x : Command) (m : Machine) → Right map m → Change x (m .lent .cells) (machineAfter prims map x m .lent .cells) (answerTo prims map x m)
   unfolding unchanged powerUp act performed

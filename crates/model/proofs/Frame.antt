@@ -58,15 +58,15 @@ Aim map (Transition target high low) j = ⊥
 Aim map PowerUp j = ⊥
 
 -- a command is a write, a digest command, or aims nowhere
-pub by-aim : {map : Map} (Q : Command → Type 0) → ((a value : ℕ) → Q (Write a value)) → ((a : ℕ) → Q (Digest a))
+pub by-aim : (map : Map) (Q : Command → Type 0) → ((a value : ℕ) → Q (Write a value)) → ((a : ℕ) → Q (Digest a))
     → ((x : Command) → ((j : ℕ) → Aim map x j → ⊥) → Q x) → (x : Command) → Q x
-by-aim Q f g h (Write a value) = f a value
-by-aim Q f g h (Digest a) = g a
-by-aim Q f g h (Read a) = h (Read a) (λ j z. z)
-by-aim Q f g h (FrontRead a) = h (FrontRead a) (λ j z. z)
-by-aim Q f g h (ReadLock number) = h (ReadLock number) (λ j z. z)
-by-aim Q f g h (Transition target high low) = h (Transition target high low) (λ j z. z)
-by-aim Q f g h PowerUp = h PowerUp (λ j z. z)
+by-aim map Q f g h (Write a value) = f a value
+by-aim map Q f g h (Digest a) = g a
+by-aim map Q f g h (Read a) = h (Read a) (λ j z. z)
+by-aim map Q f g h (FrontRead a) = h (FrontRead a) (λ j z. z)
+by-aim map Q f g h (ReadLock number) = h (ReadLock number) (λ j z. z)
+by-aim map Q f g h (Transition target high low) = h (Transition target high low) (λ j z. z)
+by-aim map Q f g h PowerUp = h PowerUp (λ j z. z)
 
 -- a word that a command may program under this record
 pub data Open (map : Map) (x : Command) (s : Session) (j : ℕ) : Type 0 where

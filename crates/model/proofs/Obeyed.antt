@@ -20,19 +20,14 @@ module _ (prims : Primitives) (map : Map) where
   obeyedAnswers [] m = []
   obeyedAnswers (x ∷ l) m = obey prims map x m .result .answer ∷ obeyedAnswers l (obey prims map x m .result .machine)
 
-  pub after-obeyed : (l : List Command) (m : Machine) → rightLengths map (m .lent) ≡ true → validConstants (m .lent .constants) ≡ true
-      → after prims map l m ≡ obeyed l m
-  unfolding after obeyed
-  after-obeyed [] m e v = refl
-  after-obeyed (x ∷ l) m e v =
-      ap (λ (s : Step). after prims map l (s .result .machine)) (judged-obeys prims map x m e v)
-      ∙ after-obeyed l _ (obey-lengths prims map x m e) (rw (obey-constants prims map x m) v)
-
-  pub answers-obeyed : (l : List Command) (m : Machine) → rightLengths map (m .lent) ≡ true → validConstants (m .lent .constants) ≡ true
-      → answers prims map l m ≡ obeyedAnswers l m
-  unfolding answers obeyedAnswers
-  answers-obeyed [] m e v = refl
-  answers-obeyed (x ∷ l) m e v =
-      ap (λ (s : Step). s .result .answer ∷ answers prims map l (s .result .machine)) (judged-obeys prims map x m e v)
-      ∙ ap (λ (k : List Answer). obey prims map x m .result .answer ∷ k)
-      (answers-obeyed l _ (obey-lengths prims map x m e) (rw (obey-constants prims map x m) v))
+  pub run-obeyed : (l : List Command) (m : Machine) → rightLengths map (m .lent) ≡ true → validConstants (m .lent .constants) ≡ true
+      → (answers prims map l m ≡ obeyedAnswers l m) × (after prims map l m ≡ obeyed l m)
+  unfolding after answers obeyed obeyedAnswers
+  run-obeyed [] m e v = (refl, refl)
+  run-obeyed (x ∷ l) m e v =
+      let o = obey prims map x m .result in
+      let q = judged-obeys prims map x m e v in
+      let r = run-obeyed l (o .machine) (obey-lengths prims map x m e) (rw (obey-constants prims map x m) v) in (
+        ap (λ (s : Step). s .result .answer ∷ answers prims map l (s .result .machine)) q ∙ ap (λ (k : List Answer). o .answer ∷ k) (r .0),
+        ap (λ (s : Step). after prims map l (s .result .machine)) q ∙ r .1,
+      )

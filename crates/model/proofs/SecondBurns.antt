@@ -12,7 +12,7 @@ use Rattle.words.specs.declared.Programmed.the-variants as programmed
 use Rattle.words.specs.Words.{numberOf, partAt}
 use Rattle.words.specs.Programming.{programAnswer}
 use Rattle.words.proofs.Parts.{blank-part, part-same}
-use Rattle.words.proofs.Programming.{program-elsewhere, blank-done, done-blank}
+use Rattle.words.proofs.Programming.{refused-not-done, program-elsewhere, blank-done, done-blank}
 use Rattle.partitions.specs.Map.{Map, rightsOf, partitionAt, limit, firstWord, wordCount}
 use Rattle.partitions.specs.Fitness.{fit}
 use Rattle.partitions.proofs.Granules.{shared-word}
@@ -53,7 +53,7 @@ module _ (prims : Primitives) (map : Map) (F : fit map ≡ true) where
         go : Result → getD cells j 0 ≡ 0
         go (left _ f) = absurd (omega (arith, ltb-true 4 (codeOf answer) f))
         go (unburnt _ _ _ f) = absurd (omega (arith, ap codeOf f))
-        go (burnt w k f _) = done-blank _ cells _ j (rw (w .blank) at k) (rw (w .place) lo) (rw (w .place, w .size) hi)
+        go (burnt w k f _) = done-blank _ cells _ j (rw (w .by-rule) at k) (rw (w .place) lo) (rw (w .place, w .size) hi)
 
     -- answered 4, it did not
     target-held : codeOf answer ≡ 0x04 → ((j : ℕ) → at ≤ j → j < at + n → getD cells j 0 ≡ 0) → ⊥
@@ -62,10 +62,7 @@ module _ (prims : Primitives) (map : Map) (F : fit map ≡ true) where
         go : Result → ⊥
         go (left _ f) = omega (arith, ltb-true 4 (codeOf answer) f)
         go (unburnt w k _ _) =
-            let d = blank-done _ _ cells _ (λ j l u. h j (rw (← w .place) l) (rw (← w .place, ← w .size) u)) in
-            let q : programmed.Refused _ ≡ programmed.Done = sym k ∙ d in
-            let z : _≡_ {A = ℕ} 0 1 = cc in
-            omega arith
+            refused-not-done (sym k ∙ blank-done _ _ cells _ (λ j l u. h j (rw (← w .place) l) (rw (← w .place, ← w .size) u)))
         go (burnt _ _ _ f) = omega (arith, ap codeOf f)
 
     -- a word stays that is not zero
@@ -75,7 +72,7 @@ module _ (prims : Primitives) (map : Map) (F : fit map ≡ true) where
         go : Result → getD (outcome prims map x m .cells) j 0 ≡ getD cells j 0
         go (left e _) = rw e
         go (unburnt _ _ e _) = rw e
-        go (burnt w k f _) = rw f (program-elsewhere _ cells _ _ j (λ lo hi. h (done-blank _ cells _ j (rw (w .blank) at k) lo hi)))
+        go (burnt w k f _) = rw f (program-elsewhere _ cells _ _ j (λ lo hi. h (done-blank _ cells _ j (rw (w .by-rule) at k) lo hi)))
 
     -- and so does each word of a granule that is not blank: were one of them programmed, the granule would be the target
     granule-stays : (a : ℕ) → a < limit map → let p = partitionAt map a in
@@ -88,7 +85,7 @@ module _ (prims : Primitives) (map : Map) (F : fit map ≡ true) where
             → programAnswer rule cells from words ≡ programmed.Done → from ≤ j → j < from + length words → granule (partitionAt map a) cells a ≡ 0
         blank w k lo′ hi′ =
             let one = shared-word map F below (w .below) lo hi (rw (← w .first, ← w .place) lo′) (rw (← w .first, ← w .count, ← w .place, ← w .size) hi′) in
-            blank-part cells _ _ (λ i l u. done-blank _ cells _ i (rw (w .blank) at k) (omega (arith, one .first, w .first, w .place))
+            blank-part cells _ _ (λ i l u. done-blank _ cells _ i (rw (w .by-rule) at k) (omega (arith, one .first, w .first, w .place))
             (omega (arith, one .first, one .count, w .first, w .count, w .place, w .size)))
 
         go : Result → getD (outcome prims map x m .cells) j 0 ≡ getD cells j 0
@@ -102,19 +99,23 @@ module _ (prims : Primitives) (map : Map) (F : fit map ≡ true) where
   stays writing answer = tt
   stays digesting answer = tt
 
+  -- where what is lent is right, the answer is that of the act
+  act-code : {x : Command} {at n code : ℕ} → Targets map x at n → (m : Machine) → Right map m → codeOf (answerTo prims map x m) ≡ code
+      → codeOf (outcome prims map x m .answer) ≡ code
+  unfolding act performed
+  act-code {x} target m r e = rw (step-act prims map x m r (stays target _), answerTo) at e
+
   pub found-blank : (m : Machine) → Right map m → (l : List Command) (x : Command) (at n : ℕ) → Targets map x at n
       → codeOf (answerTo prims map x (after prims map l m)) ≡ 0x00 → (j : ℕ) → at ≤ j → j < at + n → getD (after prims map l m .lent .cells) j 0 ≡ 0
-  unfolding act performed
   found-blank m r l x at n target e =
       let m₁ = after prims map l m in
-      target-blank target m₁ (rw (step-act prims map x m₁ (after-right prims map l m r) (stays target _), answerTo) at e)
+      target-blank target m₁ (act-code target m₁ (after-right prims map l m r) e)
 
   pub found-held : (m : Machine) → Right map m → (l : List Command) (x : Command) (at n : ℕ) → Targets map x at n
       → codeOf (answerTo prims map x (after prims map l m)) ≡ 0x04 → ((j : ℕ) → at ≤ j → j < at + n → getD (after prims map l m .lent .cells) j 0 ≡ 0) → ⊥
-  unfolding act performed
   found-held m r l x at n target e =
       let m₁ = after prims map l m in
-      target-held target m₁ (rw (step-act prims map x m₁ (after-right prims map l m r) (stays target _), answerTo) at e)
+      target-held target m₁ (act-code target m₁ (after-right prims map l m r) e)
 
   pub no-second-burn : (m : Machine) (l : List Command) (x : Command) (at n : ℕ) → Targets map x at n
       → let m₁ = after prims map l m in
@@ -138,7 +139,7 @@ module _ (prims : Primitives) (map : Map) (F : fit map ≡ true) where
     word-held : (m : Machine) → Held (m .lent .cells) → (x : Command) (j : ℕ) → first ≤ j → j < first + count
         → getD (outcome prims map x m .cells) j 0 ≡ getD (m .lent .cells) j 0
     word-held m h =
-        by-aim {map = map} (λ (x : Command). (j : ℕ) → first ≤ j → j < first + count → getD (outcome prims map x m .cells) j 0 ≡ getD (m .lent .cells) j 0)
+        by-aim map (λ (x : Command). (j : ℕ) → first ≤ j → j < first + count → getD (outcome prims map x m .cells) j 0 ≡ getD (m .lent .cells) j 0)
         (λ b value. granule-stays writing m a below h) (λ b. granule-stays digesting m a below h)
         (λ x n j lo hi. aimless-granule prims map F m x below direct j lo hi (n j))
 

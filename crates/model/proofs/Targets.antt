@@ -29,7 +29,7 @@ module _ (prims : Primitives) (map : Map) (m : Machine) (a : ℕ) where
     pub below : a < limit map
     pub direct : rightsOf (partitionAt map a .kind) .direct ≡ true
     pub not-digest : (rightsOf (partitionAt map a .kind) .hardware && inDigest (partitionAt map a) a) ≡ false
-    pub blank : rule ≡ directRule
+    pub by-rule : rule ≡ directRule
     pub place : at ≡ firstWord (partitionAt map a) a
     pub holds : words ≡ storedWords prims map (m .lent .constants) a given
     pub answer : value ≡ 0
@@ -39,7 +39,7 @@ module _ (prims : Primitives) (map : Map) (m : Machine) (a : ℕ) where
     pub below : a < limit map
     pub hard : rightsOf (partitionAt map a .kind) .hardware ≡ true
     pub first : a ≡ partitionAt map a .start
-    pub blank : rule ≡ directRule
+    pub by-rule : rule ≡ directRule
     pub place : at ≡ partitionAt map a .digest / 2
     pub holds : words ≡ wordsOf 4 value
 
@@ -47,17 +47,17 @@ module _ (prims : Primitives) (map : Map) (m : Machine) (a : ℕ) where
   unfolding readyAct commandAct writeAct
   write-once given =
       once-if (λ t. refuses refl) λ r. once-if (λ t. refuses refl) λ l. once-if (λ t. refuses refl) λ d. once-if (λ t. refuses refl) λ h. once-if (λ t. refuses refl) λ z.
-      burns (record { below = leb-false _ _ l; direct = not-false _ d; not-digest = h; blank = refl; place = refl; holds = refl; answer = refl })
+      burns (record { below = leb-false _ _ l; direct = not-false _ d; not-digest = h; by-rule = refl; place = refl; holds = refl; answer = refl })
 
   pub digest-once : Once Computed (readyAct prims map m (Digest a))
   unfolding readyAct commandAct digestAct
   digest-once =
       once-if (λ t. refuses refl) λ r. once-if (λ t. refuses refl) λ l. once-if (λ t. refuses refl) λ h. once-if (λ t. refuses refl) λ s. once-if (λ t. refuses refl) λ z.
-      burns (record { below = leb-false _ _ l; hard = not-false _ h; first = eqb-true _ _ (not-false _ s); blank = refl; place = refl; holds = refl })
+      burns (record { below = leb-false _ _ l; hard = not-false _ h; first = eqb-true _ _ (not-false _ s); by-rule = refl; place = refl; holds = refl })
 
 -- What either programs, where it programs: its target, which is the granule of an address, by the rule of direct access.
 pub record Struck (map : Map) (at n : ℕ) (rule : Rule) (from : ℕ) (words : List ℕ) (value : ℕ) : Type 0 where
-  pub blank : rule ≡ directRule
+  pub by-rule : rule ≡ directRule
   pub place : from ≡ at
   pub size : length words ≡ n
   pub address : ℕ
@@ -69,7 +69,7 @@ module _ (prims : Primitives) (map : Map) (F : fit map ≡ true) (m : Machine) w
   written-struck : {a given : ℕ} {rule : Rule} {at : ℕ} {words : List ℕ} {value : ℕ} → Written prims map m a given rule at words value
       → Struck map (firstWord (partitionAt map a) a) (wordCount (partitionAt map a) a) rule at words value
   written-struck {a} w =
-      record { blank = w .blank; place = w .place; size = rw (w .holds) (length-words _ _); address = a; below = w .below; first = refl; count = refl }
+      record { by-rule = w .by-rule; place = w .place; size = rw (w .holds) (length-words _ _); address = a; below = w .below; first = refl; count = refl }
 
   -- a digest location is the granule of its first address
   computed-struck : {a : ℕ} {rule : Rule} {at : ℕ} {words : List ℕ} {value : ℕ} → Computed prims map m a rule at words value
@@ -84,7 +84,7 @@ module _ (prims : Primitives) (map : Map) (F : fit map ≡ true) (m : Machine) w
       let low : 2 * (p .digest / 2) < limit map = omega (arith, i .fits .tail d, end-within map F (i .known)) in
       let g = digest-granule map F low (rw q d) (rw q (e .1)) in
       record {
-        blank = w .blank;
+        by-rule = w .by-rule;
         place = w .place;
         size = rw (w .holds) (length-words _ _);
         address = 2 * (p .digest / 2);

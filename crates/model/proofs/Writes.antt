@@ -148,7 +148,7 @@ module _ (prims : Primitives) (C : Cipher prims) (map : Map) (F : fit map ≡ tr
     word-stays : (m : Machine) (x : Command) → spares map a x (outcome prims map x m .answer) → (j : ℕ) → first ≤ j → j < first + count
         → getD (outcome prims map x m .cells) j 0 ≡ getD (m .lent .cells) j 0
     word-stays m =
-        by-aim {map = map}
+        by-aim map
         (λ (x : Command). spares map a x (outcome prims map x m .answer) → (j : ℕ) → first ≤ j → j < first + count
         → getD (outcome prims map x m .cells) j 0 ≡ getD (m .lent .cells) j 0)
         (write-stays m) (λ b sp j lo hi. aimless-granule prims map F m (Digest b) below direct j lo hi (not-sealed j lo hi))
@@ -291,51 +291,23 @@ module _ (prims : Primitives) (C : Cipher prims) (map : Map) (F : fit map ≡ tr
     pub write-taken : TakesEffect prims map m₁ a value s
     write-taken = write-takes c₀ m₁ fresh a value (rw same-constants al)
 
-    -- commands l₂ after which the granule is as the write left it
-    module _ (l₂ : List Command)
-        (stays : let p = partitionAt map a in
-        partAt (after prims map l₂ (s .result .machine) .lent .cells) (firstWord p a) (wordCount p a)
-        ≡ partAt (s .result .machine .lent .cells) (firstWord p a) (wordCount p a)) where
+    stored-number : granule (partitionAt map a) (s .result .machine .lent .cells) a ≡ numberOf (storedWords prims map (m .lent .constants) a value)
+    unfolding granule
+    stored-number = rw (write-taken .holds, same-constants)
+
+    module _ (l₂ : List Command) where
       abbrev m₂ : Machine
       m₂ = after prims map l₂ (s .result .machine)
 
-      still-right : Right map m₂
-      still-right = after-right prims map l₂ (s .result .machine) (step-right prims map (Write a value) m₁ (fresh .right))
-
-      still-held : partAt (m₂ .lent .cells) (firstWord (partitionAt map a) a) (wordCount (partitionAt map a) a) ≡ storedWords prims map (m₂ .lent .constants) a value
-      still-held =
-          let e : m₂ .lent .constants ≡ m₁ .lent .constants = after-constants prims map l₂ (s .result .machine) ∙ step-constants prims map (Write a value) m₁ in
-          rw e (stays ∙ write-taken .holds)
-
-      -- while Ready lasts, every read of the granule answers 0 and the data used
-      back : Lasts prims map l₂ (s .result .machine) → (b : ℕ) → b < limit map → firstWord (partitionAt map b) b ≡ firstWord (partitionAt map a) a
-          → (inDigest (partitionAt map b) b ≡ false → readLocked (m₂ .session) (numberAt map b) ≡ false)
-          → answerTo prims map (Read b) m₂ ≡ Done (usedValue map a value)
-      back lasts b low same =
-          let f = after-fresh prims map F c₀ l₂ (s .result .machine) lasts (step-fresh prims map F c₀ (Write a value) m₁ tt fresh) in
-          read-back a (al .below) (al .direct) (al .notDigest) b low same m₂ still-right value v still-held c₀ f (al .unlocked)
-
-      -- and ever after, every read of the granule that answers 0 answers the data used
-      last : (b shown : ℕ) → firstWord (partitionAt map b) b ≡ firstWord (partitionAt map a) a
-          → answerTo prims map (Read b) m₂ ≡ Done shown → shown ≡ usedValue map a value
-      last = read-lasts a (al .below) (al .direct) (al .notDigest) m₂ still-right value v still-held
-
-    module _ (l₂ : List Command) where
-      abbrev end : Machine
-      end = after prims map l₂ (s .result .machine)
-
+      -- the granule is as the write left it
       abbrev Stays : Type 0
       Stays =
           let p = partitionAt map a in
-          partAt (end .lent .cells) (firstWord p a) (wordCount p a) ≡ partAt (s .result .machine .lent .cells) (firstWord p a) (wordCount p a)
+          partAt (m₂ .lent .cells) (firstWord p a) (wordCount p a) ≡ partAt (s .result .machine .lent .cells) (firstWord p a) (wordCount p a)
 
-      -- it is, where no other write to it answers 0
+      -- so it is where no other write to it answers 0
       spared-stays : Spared prims map a l₂ (s .result .machine) → Stays
       spared-stays = after-stays a (al .below) (al .direct) (al .notDigest) l₂ (s .result .machine)
-
-      stored-number : granule (partitionAt map a) (s .result .machine .lent .cells) a ≡ numberOf (storedWords prims map (m .lent .constants) a value)
-      unfolding granule
-      stored-number = rw (write-taken .holds, same-constants)
 
       -- and always, where the stored form is not zero: the granule is not blank
       lasting-stays : (numberOf (storedWords prims map (m .lent .constants) a value) ≡ 0 → Spared prims map a l₂ (s .result .machine)) → Stays
@@ -343,13 +315,25 @@ module _ (prims : Primitives) (C : Cipher prims) (map : Map) (F : fit map ≡ tr
           by-cases (eqb (numberOf (storedWords prims map (m .lent .constants) a value)) 0) (λ t. spared-stays (spared (eqb-true _ _ t)))
           (λ t. after-held prims map F a (al .below) (al .direct) l₂ (s .result .machine) (λ z. eqb-false _ _ t (sym stored-number ∙ z)))
 
+      still-right : Right map m₂
+      still-right = after-right prims map l₂ (s .result .machine) (step-right prims map (Write a value) m₁ (fresh .right))
+
+      still-held : Stays → partAt (m₂ .lent .cells) (firstWord (partitionAt map a) a) (wordCount (partitionAt map a) a) ≡ storedWords prims map (m₂ .lent .constants) a value
+      still-held stays =
+          let e : m₂ .lent .constants ≡ m₁ .lent .constants = after-constants prims map l₂ (s .result .machine) ∙ step-constants prims map (Write a value) m₁ in
+          rw e (stays ∙ write-taken .holds)
+
+      -- while Ready lasts, every read of the granule answers 0 and the data used
       pub reads-back : Spared prims map a l₂ (s .result .machine) → Lasts prims map l₂ (s .result .machine)
           → (b : ℕ) → b < limit map → firstWord (partitionAt map b) b ≡ firstWord (partitionAt map a) a
-          → (inDigest (partitionAt map b) b ≡ false → readLocked (end .session) (numberAt map b) ≡ false)
-          → answerTo prims map (Read b) end ≡ Done (usedValue map a value)
-      reads-back spared = back l₂ (spared-stays spared)
+          → (inDigest (partitionAt map b) b ≡ false → readLocked (m₂ .session) (numberAt map b) ≡ false)
+          → answerTo prims map (Read b) m₂ ≡ Done (usedValue map a value)
+      reads-back spared lasts b low same =
+          let f = after-fresh prims map F c₀ l₂ (s .result .machine) lasts (step-fresh prims map F c₀ (Write a value) m₁ tt fresh) in
+          read-back a (al .below) (al .direct) (al .notDigest) b low same m₂ still-right value v (still-held (spared-stays spared)) c₀ f (al .unlocked)
 
+      -- and ever after, every read of the granule that answers 0 answers the data used
       pub reads-last : (numberOf (storedWords prims map (m .lent .constants) a value) ≡ 0 → Spared prims map a l₂ (s .result .machine))
           → (b shown : ℕ) → firstWord (partitionAt map b) b ≡ firstWord (partitionAt map a) a
-          → answerTo prims map (Read b) end ≡ Done shown → shown ≡ usedValue map a value
-      reads-last spared = last l₂ (lasting-stays spared)
+          → answerTo prims map (Read b) m₂ ≡ Done shown → shown ≡ usedValue map a value
+      reads-last spared = read-lasts a (al .below) (al .direct) (al .notDigest) m₂ still-right value v (still-held (lasting-stays spared))

@@ -16,8 +16,7 @@ use Rattle.words.specs.declared.Programmed.{Programmed}
 use Rattle.words.specs.declared.Programmed.the-variants.{Done, Refused}
 use Rattle.words.specs.Programming.{refuses, programAnswer, programCells}
 use Rattle.words.proofs.Parts.{sets-past}
-use Rattle.words.proofs.Rules.{blank-passes}
-use Rattle.words.proofs.Programming.{answer-next, answer-stop, by-answer, refused-lowest, stored-done, stored-refused}
+use Rattle.words.proofs.Programming.{answer-next, answer-stop, by-answer, blank-done, refused-lowest, stored-done, stored-refused}
 
 -- ---- the loop over a part: one word more is tested
 
@@ -42,10 +41,7 @@ sets-whole ss vs e =
 -- ---- a value that reaches past the last cell
 
 past-done : (rule : Rule) (vs c : List ℕ) (at : ℕ) → length c ≤ at → programAnswer rule c at vs ≡ Done
-unfolding programAnswer
-past-done rule [] c at h = refl
-past-done rule (v ∷ vs) c at h =
-    answer-next rule c vs at v (rw (List·getD-eq-default c 0 {n = at} h) (blank-passes rule v)) ∙ past-done rule vs c (suc at) (omega arith)
+past-done rule vs c at h = blank-done rule vs c at (λ j l u. List·getD-eq-default c 0 {n = j} (omega arith))
 
 pub past-cells : (rule : Rule) (c vs : List ℕ) (at : ℕ) → length c ≤ at → (Done ≡ programAnswer rule c at vs) × (c ≡ programCells rule c at vs)
 past-cells rule c vs at h = (sym (past-done rule vs c at h), sym (stored-done rule c vs at (past-done rule vs c at h) ∙ sets-past vs c at h))

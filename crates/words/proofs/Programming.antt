@@ -27,6 +27,9 @@ pub by-answer {ℓ} : {X : Type ℓ} (r : Programmed) → (r ≡ Done → X) →
 by-answer Done f g = f refl
 by-answer (Refused i) f g = g i refl
 
+pub refused-not-done : {i : ℕ} → Refused i ≡ Done → ⊥
+refused-not-done e = let z : _≡_ {A = ℕ} 0 1 = cc in omega arith
+
 -- an array keeps its own bits, and what is kept twice over is kept
 pub kept-refl : {c : List ℕ} → Kept c c
 kept-refl = record { bits = λ j i h. le-refl _ }
@@ -63,7 +66,7 @@ module _ (rule : Rule) where
 
   pub refused-lowest : (vs c : List ℕ) (at i : ℕ) → programAnswer rule c at vs ≡ Refused i → Lowest c at vs i
   unfolding programAnswer
-  refused-lowest [] c at i e = absurd (let z : _≡_ {A = ℕ} 0 1 = cc in omega arith)
+  refused-lowest [] c at i e = absurd (refused-not-done (sym e))
   refused-lowest (v ∷ vs) c at i e = by-cases (refuses rule (getD c at 0) v) here (later (refused-lowest vs c (suc at) i))
     where
       here : refuses rule (getD c at 0) v ≡ true → Lowest c at (v ∷ vs) i
@@ -119,19 +122,17 @@ module _ (rule : Rule) where
   pub program-takes : (c vs : List ℕ) (at : ℕ) → at + length vs ≤ length c → programAnswer rule c at vs ≡ Done → partAt (programCells rule c at vs) at (length vs) ≡ vs
   program-takes c vs at h e = rw (stored-done c vs at e) (part-sets vs c at h)
 
-  -- done: every word was taken
+  -- done: the first word was taken, and the rest; so every word was
+  done-first : (c vs : List ℕ) (at v : ℕ) → programAnswer rule c at (v ∷ vs) ≡ Done → refuses rule (getD c at 0) v ≡ false
+  done-first c vs at v e = by-cases (refuses rule (getD c at 0) v) (λ t. absurd (refused-not-done (sym (answer-stop c vs at v t) ∙ e))) (λ t. t)
+
+  done-rest : (c vs : List ℕ) (at v : ℕ) → programAnswer rule c at (v ∷ vs) ≡ Done → programAnswer rule c (suc at) vs ≡ Done
+  done-rest c vs at v e = sym (answer-next c vs at v (done-first c vs at v e)) ∙ e
+
   done-passed : (vs c : List ℕ) (at i : ℕ) → programAnswer rule c at vs ≡ Done → i < length vs → refuses rule (getD c (at + i) 0) (getD vs i 0) ≡ false
   done-passed [] c at i e l = absurd (omega arith)
-  done-passed (v ∷ vs) c at i e l = by-cases (refuses rule (getD c at 0) v) stops (passes i l (done-passed vs c (suc at)))
-    where
-      stops : refuses rule (getD c at 0) v ≡ true → refuses rule (getD c (at + i) 0) (getD (v ∷ vs) i 0) ≡ false
-      stops t = absurd (let q : Refused at ≡ Done = sym (answer-stop c vs at v t) ∙ e in let z : _≡_ {A = ℕ} 0 1 = cc in omega arith)
-
-      passes : (i : ℕ) → i < suc (length vs)
-          → ((i : ℕ) → programAnswer rule c (suc at) vs ≡ Done → i < length vs → refuses rule (getD c (suc at + i) 0) (getD vs i 0) ≡ false)
-          → refuses rule (getD c at 0) v ≡ false → refuses rule (getD c (at + i) 0) (getD (v ∷ vs) i 0) ≡ false
-      passes zero l rest t = rw add-zero t
-      passes (suc i) l rest t = rw (add-suc, ← suc-add) (rest i (sym (answer-next c vs at v t) ∙ e) (omega arith))
+  done-passed (v ∷ vs) c at zero e l = rw add-zero (done-first c vs at v e)
+  done-passed (v ∷ vs) c at (suc i) e l = rw (add-suc, ← suc-add) (done-passed vs c (suc at) i (done-rest c vs at v e) (omega arith))
 
   -- ---- no bit is lost
 
@@ -148,16 +149,10 @@ module _ (rule : Rule) where
 
   kept-sets : (vs c : List ℕ) (at : ℕ) → programAnswer rule c at vs ≡ Done → Kept c (sets c at vs)
   kept-sets [] c at e = kept-refl
-  kept-sets (v ∷ vs) c at e = by-cases (refuses rule (getD c at 0) v) stops (passes (kept-sets vs (set c at v) (suc at)))
-    where
-      stops : refuses rule (getD c at 0) v ≡ true → Kept c (sets c at (v ∷ vs))
-      stops t = absurd (let q : Refused at ≡ Done = sym (answer-stop c vs at v t) ∙ e in let z : _≡_ {A = ℕ} 0 1 = cc in omega arith)
-
-      passes : (programAnswer rule (set c at v) (suc at) vs ≡ Done → Kept (set c at v) (sets (set c at v) (suc at) vs)) → refuses rule (getD c at 0) v ≡ false
-          → Kept c (sets c at (v ∷ vs))
-      passes rest t =
-          kept-trans (kept-set c at v t)
-          (rest (answer-same vs (set c at v) c (suc at) (λ j l u. getD-set-other c at j v 0 (λ q. omega arith)) ∙ sym (answer-next c vs at v t) ∙ e))
+  kept-sets (v ∷ vs) c at e =
+      kept-trans (kept-set c at v (done-first c vs at v e))
+      (kept-sets vs (set c at v) (suc at)
+      (answer-same vs (set c at v) c (suc at) (λ j l u. getD-set-other c at j v 0 (λ q. omega arith)) ∙ done-rest c vs at v e))
 
   pub program-kept : (c vs : List ℕ) (at : ℕ) → Kept c (programCells rule c at vs)
   program-kept c vs at =
