@@ -19,7 +19,6 @@ use Rattle.partitions.proofs.Map1.{map1-fit}
 use Rattle.model.specs.declared.Answer.the-variants.{Done, NotBlank, Denied}
 use Rattle.model.specs.declared.Command.{Command}
 use Rattle.model.specs.declared.Command.the-variants.{Read, Write, FrontRead, Digest, ReadLock, Transition, PowerUp}
-use Rattle.model.specs.Answers.{codeOf}
 use Rattle.model.specs.Lent.{Machine}
 use Rattle.life_cycle.specs.declared.LifeCycle.the-variants.{Valid}
 use Rattle.model.specs.Commands.{granule, storedDigest}
@@ -29,9 +28,9 @@ use Rattle.model.specs.Cases.{blank, number, blankDigest}
 use Rattle.model.specs.Terms.{Right, Cipher, Digested, storedWords, Lasts, Spared, usedValue, Allowed, Matched, HiddenWord, Alike}
 use Rattle.model.specs.Demand3.{Demand3, Ready}
 use Rattle.model.specs.Session.{readLocked}
-use Rattle.model.specs.Beyond.{Beyond, writing, digesting, Puts, writes, Source, put, stays, moves}
+use Rattle.model.specs.Beyond.{Beyond, Says, writing, digesting, Named, Puts, writes, Source, put, stays, moves}
 use Rattle.model.proofs.Everything.{everything}
-use Rattle.model.proofs.ToyChip.{toyWith, toy, off, tested}
+use Rattle.model.proofs.ToyChip.{toyWith, toy, off, ready, tested}
 use Rattle.model.proofs.Theorems.{refusals, demand3, beyond}
 use Rattle.model.proofs.Strokes.{rising}
 
@@ -146,21 +145,12 @@ zero-on = toy-beyond .lasting (off blank) (right blank refl) [] [] woken 0x003 0
 
 found-word : getD (after toy map1 (PowerUp ∷ []) (off blank) .lent .cells) 1 0 ≡ 0
 found-word =
-    toy-beyond .taken (off blank) (right blank refl) (PowerUp ∷ []) (Write 0x003 0x55) 0 2 (unfold everything in writing) (unfold everything in refl) 1 (omega arith) (lit< tt)
+    toy-beyond .taken (off blank) (PowerUp ∷ []) (Write 0x003 0x55) 0 (0x55 ∷ 0 ∷ []) (unfold everything in writing) (unfold everything in refl) 1 (omega arith) (lit< tt)
 
 -- a digest command found the four words of HW_CFG's digest blank
 found-digest : getD (after toy map1 (PowerUp ∷ []) (off blank) .lent .cells) 295 0 ≡ 0
 found-digest =
-    toy-beyond .taken (off blank) (right blank refl) (PowerUp ∷ []) (Digest 0x200) 292 4 (unfold everything in digesting) (unfold everything in refl) 295 (omega arith) (lit< tt)
-
-again-refused : codeOf (answerTo toy map1 (Write 0x003 0x55) wrote) ≡ 0x04
-unfolding everything wrote
-again-refused = refl
-
-not-blank : ((j : ℕ) → 0 ≤ j → j < 2 → getD (wrote .lent .cells) j 0 ≡ 0) → ⊥
-unfolding wrote after
-not-blank =
-    toy-beyond .refused (off blank) (right blank refl) (PowerUp ∷ Write 0x003 0x55 ∷ []) (Write 0x003 0x55) 0 2 (unfold everything in writing) (unfold wrote in again-refused)
+    toy-beyond .taken (off blank) (PowerUp ∷ []) (Digest 0x200) 292 (1 ∷ 0 ∷ 0 ∷ 0 ∷ []) (unfold everything in digesting) (unfold everything in refl) 295 (omega arith) (lit< tt)
 
 burnt-word : getD (wrote .lent .cells) 0 0 ≡ 0x55
 unfolding everything wrote
@@ -168,7 +158,7 @@ burnt-word = refl
 
 word-left : getD (machineAfter toy map1 (Write 0x003 0xFF) wrote .lent .cells) 0 0 ≡ getD (wrote .lent .cells) 0 0
 unfolding after
-word-left = toy-beyond .burns wrote [] (Write 0x003 0xFF) 0 2 (unfold everything in writing) 0 (λ z. omega (arith, burnt-word))
+word-left = toy-beyond .burns wrote [] (Write 0x003 0xFF) 0 (0xFF ∷ 0 ∷ []) (unfold everything in writing) 0 (λ z. omega (arith, burnt-word))
 
 granule-held : granule (partitionAt map1 0x001) (wrote .lent .cells) 0x001 ≡ 0x55
 unfolding everything wrote
@@ -180,6 +170,24 @@ granule-left : let p = partitionAt map1 0x001 in
 unfolding after
 granule-left =
     toy-beyond .granules wrote 0x001 (unfold everything in (lit< tt)) (unfold everything in refl) [] (passing ++ staying) (λ z. omega (arith, granule-held))
+
+-- ---- which word: the second of a granule that a write meets, the lowest of a digest given again, a counter word and a state word
+
+write-named : Named toy map1 (after toy map1 (PowerUp ∷ []) (off (set blank 1 7))) (Write 0x000 0x55) 1
+unfolding everything
+write-named = toy-beyond .refused (off (set blank 1 7)) (PowerUp ∷ []) (Write 0x000 0x55) refl
+
+digest-named : Named toy map1 (after toy map1 (PowerUp ∷ Digest 0x200 ∷ []) (off blank)) (Digest 0x200) 292
+unfolding everything
+digest-named = toy-beyond .refused (off blank) (PowerUp ∷ Digest 0x200 ∷ []) (Digest 0x200) refl
+
+stroke-named : Named toy map1 (ready 0 (set blank 404 4)) (Transition 1 0 7) 404
+unfolding everything
+stroke-named = toy-beyond .refused (ready 0 (set blank 404 4)) [] (Transition 1 0 7) refl
+
+state-named : Named toy map1 (ready 0 (set blank 430 4)) (Transition 1 0 7) 430
+unfolding everything
+state-named = toy-beyond .refused (ready 0 (set blank 430 4)) [] (Transition 1 0 7) refl
 
 -- ---- a lock: with a digest of 1 written to CREATOR_SW_CFG, the next power-up finds it locked
 
@@ -197,6 +205,11 @@ found-locked = refl
 refused-since : answerTo toy map1 (Write 0x000 0xFF) (after toy map1 (locking ++ PowerUp ∷ []) (off blank)) ≡ Denied
 unfolding everything locking
 refused-since = refl
+
+-- with value 0, as the theorem says
+says-locked : Says 0x05 0 (answerTo toy map1 (Write 0x000 0xFF) (after toy map1 (locking ++ PowerUp ∷ []) (off blank)))
+says-locked =
+    toy-beyond .locked (off blank) (right blank refl) (locking ++ PowerUp ∷ []) 0x000 0xFF (unfold everything locking in refl) (unfold everything locking in refl) .0
 
 -- ---- a digest in one piece: the other half of CREATOR_SW_CFG's is refused, so that after the next power-up it still is what one write put there
 

@@ -17,10 +17,6 @@ use Rattle.partitions.proofs.Map.{inside, life-cycle-word, life-cycle-partition
 use Rattle.partitions.proofs.Granules.{word-number, digest-word}
 use Rattle.life_cycle.proofs.Encoding.{counter-length, state-length}
 use Rattle.partitions.specs.Map.{Map, rightsOf, numberAt, partition, partitionAt, limit, inDigest, firstWord, wordCount, numberOfKind}
-use Rattle.life_cycle.specs.declared.Token.{Token}
-use Rattle.life_cycle.specs.declared.Token.the-variants.{Nothing, RawUnlock, TestUnlock, TestExit, Rma}
-use Rattle.life_cycle.specs.declared.Entry.{Entry}
-use Rattle.life_cycle.specs.declared.Entry.the-variants.{Allowed, Forbidden}
 use Rattle.life_cycle.specs.Words.{counterWords, stateWords, decoded}
 use Rattle.life_cycle.specs.Transitions.{transition}
 use Rattle.model.specs.declared.Session.{Session}
@@ -29,9 +25,10 @@ use Rattle.model.specs.declared.Command.the-variants.{Read, Write, Front
 use Rattle.model.specs.Session.{isReady, sensedAt, sensedLocked}
 use Rattle.model.specs.Lent.{Machine, Primitives}
 use Rattle.model.specs.Acts.{perform}
-use Rattle.model.specs.Commands.{counterAt, stateAt, writeAct, readAct, frontReadAct, digestAct, readLockAct, moveAct, lockedTokenAct, tokenAct, entryAct, transitionAct, commandAct, readyAct}
+use Rattle.model.specs.Commands.{counterAt, stateAt, writeAct, readAct, frontReadAct, digestAct, readLockAct, moveAct, transitionAct, commandAct, readyAct}
 use Rattle.model.specs.PowerUp.{lifeCycleIn}
 use Rattle.model.proofs.Acts.{Within, says, programs, compares, within-if, within-map, perform-frame}
+use Rattle.model.proofs.Transitions.{Walk, entry-all}
 
 unfoldable pub isTransition : Command → Bool
 isTransition (Read a) = false
@@ -111,29 +108,15 @@ module _ (prims : Primitives) (map : Map) (F : fit map ≡ true) where
     move-within target =
         programs {at = counterAt map + 24} {words = stateWords k target} (λ j l u. (omega arith, omega (arith, state-length k target))) says
 
-    locked-within : (token : Token) (target given : ℕ) → Within Life (lockedTokenAct prims map m token target given)
-    unfolding lockedTokenAct
-    locked-within token target given = within-if (λ t. says) (λ t. compares (move-within target) says)
-
-    token-within : (token : Token) (target given : ℕ) → Within Life (tokenAct prims map m token target given)
-    unfolding tokenAct
-    token-within Nothing target given = move-within target
-    token-within RawUnlock target given = compares (move-within target) says
-    token-within TestUnlock target given = locked-within TestUnlock target given
-    token-within TestExit target given = locked-within TestExit target given
-    token-within Rma target given = locked-within Rma target given
-
-    entry-within : (e : Entry) (target given : ℕ) → Within Life (entryAct prims map m e target given)
-    unfolding entryAct
-    entry-within Forbidden target given = says
-    entry-within (Allowed token) target given = token-within token target given
+    moving : (target : ℕ) → Walk prims map m target (Within Life)
+    moving target = record { moved = move-within target; forbidden = says; open? = says; differs = says; compared = λ test same other. compares }
 
     transition-within : (target given : ℕ) → Within Life (transitionAct prims map m target given)
     unfolding transitionAct
     transition-within target given = within-if (λ t. says) λ t. within-if (λ t. says) λ t. within-if (λ t. says) λ t.
         let n = suc (m .session .count) in
         programs {at = counterAt map} {words = counterWords k n} (λ j l u. (l, omega (arith, counter-length k n)))
-        (entry-within (transition (m .session .state) target) target given)
+        (entry-all prims map m target (Within Life) (moving target) (transition (m .session .state) target) given)
 
     -- ---- every command
 

@@ -1,10 +1,13 @@
 pub mod Acts
+pub mod Programs
 pub mod Transitions
 pub mod Frame
 pub mod Steps
 pub mod Obeyed
 pub mod Locks
+pub mod Waking
 pub mod Targets
+pub mod NamedWords
 pub mod Digests
 pub mod Ready
 pub mod SecondBurns

@@ -3,7 +3,7 @@
 use mathlib.Core.Path.{_≡_, refl, sym, subst}
 use mathlib.Core.Bool.{Bool, true, false}
 use mathlib.Core.List.{List}
-use mathlib.Core.Option.{Option, none, some}
+use mathlib.Core.Option.{Option}
 use Prim.Native.Nat.{ℕ}
 use lib.Dec.{eqb}
 use borrow.Author.Tests.{eqb-false}
@@ -13,7 +13,6 @@ use Rattle.words.specs.declared.Rule.{Rule}
 use Rattle.words.specs.Programming.{programAnswer}
 use Rattle.partitions.specs.Map.{Map}
 use Rattle.life_cycle.specs.declared.LifeCycle.{LifeCycle}
-use Rattle.life_cycle.specs.declared.LifeCycle.the-variants.{Valid, Invalid}
 use Rattle.model.specs.declared.Answer.{Answer}
 use Rattle.model.specs.declared.Answer.the-variants.{Done, NotBlank, StrokesUsed, NotInTable, TokenNotLocked, TokenDiffers}
 use Rattle.model.specs.declared.Session.{Session}
@@ -24,12 +23,13 @@ use Rattle.model.specs.Answers.{codeOf}
 use Rattle.model.specs.Lent.{Machine, Primitives}
 use Rattle.model.specs.Acts.{Turn, stay, halt, die, Act, say, program, refuse, turned, Performed, perform}
 use Rattle.model.specs.Commands.{writeAct, readAct, frontReadAct, digestAct, readLockAct, transitionAct, commandAct, readyAct}
-use Rattle.model.specs.PowerUp.{Waking, lifeCycleWaking, wakingOf, verdictOf, lifeCycleIn, waking, wokenAnswer}
+use Rattle.model.specs.PowerUp.{wakingOf, verdictOf, lifeCycleIn, waking, wokenAnswer}
 use Rattle.model.specs.Step.{Step, unchanged, performed, act, powerUp, obey, step, machineAfter, answerTo}
 use Rattle.model.specs.Terms.{quiet}
 use Rattle.model.specs.Refusals.{judged, early, phaseAfter}
 use Rattle.model.proofs.Acts.{after-both, Gives, programs, perform-gives}
 use Rattle.model.proofs.Transitions.{Ends, entry-gives}
+use Rattle.model.proofs.Waking.{woken-answer}
 
 -- what an act came to that left the cells and turned nothing
 pub same-machine : (prims : Primitives) (map : Map) (m : Machine) (r : Performed) → r .cells ≡ m .lent .cells → r .turn ≡ stay
@@ -97,11 +97,7 @@ module _ (prims : Primitives) (map : Map) (m : Machine) where
 
 module _ (prims : Primitives) (map : Map) where
   woken-code : (v : Option ℕ) (life : LifeCycle) → judged (codeOf (wokenAnswer (wakingOf v life))) ≡ false
-  unfolding wokenAnswer wakingOf lifeCycleWaking
-  woken-code (some number) life = refl
-  woken-code none Invalid = refl
-  woken-code none (Valid state count) =
-      if-both (λ (w : Waking). judged (codeOf (wokenAnswer w)) ≡ false) (eqb state 20) _ _ (λ e. refl) (λ e. refl)
+  woken-code v life = woken-answer (λ (answer : Answer). judged (codeOf answer) ≡ false) v life (λ value. refl) (λ number. refl) (λ value. refl)
 
   pub power-ups-refuse : (m : Machine)
       → (machineAfter prims map PowerUp m .lent .cells ≡ m .lent .cells)

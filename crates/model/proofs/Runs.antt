@@ -1,20 +1,19 @@
 -- Computed runs of rules that the table of cases does not show: tokens of a locked partition, digests, second burns, read locks, power-ups that fail, and
 -- records that no power-up leaves.
 use mathlib.Core.Path.{_≡_, refl}
-use mathlib.Core.Bool.{false}
 use mathlib.Core.List.{List, [], _∷_, _++_}
 use Prim.Native.Nat.{ℕ}
 use lib.ListN.{getD, set, replicate}
 use Rattle.partitions.specs.Map1.{map1}
 use Rattle.model.specs.declared.Reason.the-variants.{BitCleared}
-use Rattle.model.specs.declared.Phase.the-variants.{Ready, Dead}
+use Rattle.model.specs.declared.Phase.the-variants.{Dead}
 use Rattle.model.specs.declared.Answer.the-variants.{Done, NotBlank, Denied, DigestFailed, NotReady, LifeCycleFailed, UnknownTarget, TokenDiffers}
 use Rattle.model.specs.declared.Command.the-variants.{Read, Write, FrontRead, Digest, ReadLock, Transition, PowerUp}
-use Rattle.model.specs.Lent.{Machine, Primitives}
+use Rattle.model.specs.Lent.{Primitives}
 use Rattle.model.specs.Step.{step, after, answers, machineAfter, answerTo}
 use Rattle.model.specs.Cases.{chip, blank}
 use Rattle.model.proofs.Everything.{everything}
-use Rattle.model.proofs.ToyChip.{toyWith, toy, off, tested}
+use Rattle.model.proofs.ToyChip.{toyWith, toy, off, ready, tested}
 
 -- ---- a token of a locked partition: TEST_LOCKED0 goes to TEST_UNLOCKED1
 
@@ -100,12 +99,6 @@ unfolding everything forged
 copy-zeroed = refl
 
 -- ---- records and cells that no power-up leaves: a Ready record over any cells
-
-abbrev ready : ℕ → List ℕ → Machine
-ready state cells = record {
-  lent = off cells .lent;
-  session = record { phase = Ready; sensed = 0 ∷ 0 ∷ 0 ∷ 0 ∷ 0 ∷ 0 ∷ []; locks = false ∷ false ∷ []; state = state; count = 0 };
-}
 
 -- "A 4 at either programming leaves that step's words alone": a counter word that refuses
 stroke-refused :

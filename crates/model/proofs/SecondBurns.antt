@@ -6,64 +6,40 @@ use mathlib.Core.List.{List, [], _∷_, _++_}
 use Prim.Native.Nat.{ℕ, _+_, _≤_, _<_}
 use native.Mathlib.Omega.{arith}
 use lib.ListN.{length, getD}
-use borrow.Author.Tests.{ltb-true}
 use Rattle.words.specs.declared.Rule.{Rule}
+use Rattle.words.specs.declared.Rule.the-variants.{BlankOnly}
 use Rattle.words.specs.declared.Programmed.the-variants as programmed
 use Rattle.words.specs.Words.{numberOf, partAt}
 use Rattle.words.specs.Programming.{programAnswer}
 use Rattle.words.proofs.Parts.{blank-part, part-same}
-use Rattle.words.proofs.Programming.{refused-not-done, program-elsewhere, blank-done, done-blank}
+use Rattle.words.proofs.Programming.{program-elsewhere, done-blank}
 use Rattle.partitions.specs.Map.{Map, rightsOf, partitionAt, limit, firstWord, wordCount}
 use Rattle.partitions.specs.Fitness.{fit}
 use Rattle.partitions.proofs.Granules.{shared-word}
-use Rattle.model.specs.declared.Answer.{Answer}
 use Rattle.model.specs.declared.Command.{Command}
 use Rattle.model.specs.Answers.{codeOf}
 use Rattle.model.specs.Lent.{Machine, Primitives}
 use Rattle.model.specs.Commands.{granule}
 use Rattle.model.specs.Step.{Step, unchanged, performed, act, powerUp, after, machineAfter, answerTo}
-use Rattle.model.specs.Terms.{Right, staysReady}
 use Rattle.model.specs.Beyond.{Targets, writing, digesting}
 use Rattle.model.proofs.Acts.{Burnt, left, unburnt, burnt, perform-once}
 use Rattle.model.proofs.Targets.{Struck, target-once}
 use Rattle.model.proofs.Frame.{by-aim, aimless-granule}
-use Rattle.model.proofs.Steps.{after-append, outcome, step-all, after-right}
-use Rattle.model.proofs.Ready.{step-act}
+use Rattle.model.proofs.Steps.{after-append, outcome, step-all}
+use Rattle.model.proofs.NamedWords.{target-tells}
 
 module _ (prims : Primitives) (map : Map) (F : fit map ≡ true) where
   -- ---- one write or digest command
 
-  module _ {x : Command} {at n : ℕ} (target : Targets map x at n) (m : Machine) where
+  module _ (m : Machine) {x : Command} {at : ℕ} {words : List ℕ} (target : Targets prims map m x BlankOnly at words) where
     abbrev cells : List ℕ
     cells = m .lent .cells
 
-    abbrev answer : Answer
-    answer = outcome prims map x m .answer
-
     abbrev Result : Type 0
-    Result = Burnt (Struck map at n) cells (outcome prims map x m)
+    Result = Burnt (Struck map at (length words)) cells (outcome prims map x m)
 
     result : Result
     result = perform-once (target-once prims map F m target) (m .lent .copy) cells
-
-    -- answered 0, it found its target blank
-    target-blank : codeOf answer ≡ 0x00 → (j : ℕ) → at ≤ j → j < at + n → getD cells j 0 ≡ 0
-    target-blank e j lo hi = go result
-      where
-        go : Result → getD cells j 0 ≡ 0
-        go (left _ f) = absurd (omega (arith, ltb-true 4 (codeOf answer) f))
-        go (unburnt _ _ _ f) = absurd (omega (arith, ap codeOf f))
-        go (burnt w k f _) = done-blank _ cells _ j (rw (w .by-rule) at k) (rw (w .place) lo) (rw (w .place, w .size) hi)
-
-    -- answered 4, it did not
-    target-held : codeOf answer ≡ 0x04 → ((j : ℕ) → at ≤ j → j < at + n → getD cells j 0 ≡ 0) → ⊥
-    target-held e h = go result
-      where
-        go : Result → ⊥
-        go (left _ f) = omega (arith, ltb-true 4 (codeOf answer) f)
-        go (unburnt w k _ _) =
-            refused-not-done (sym k ∙ blank-done _ _ cells _ (λ j l u. h j (rw (← w .place) l) (rw (← w .place, ← w .size) u)))
-        go (burnt _ _ _ f) = omega (arith, ap codeOf f)
 
     -- a word stays that is not zero
     word-stays : (j : ℕ) → (getD cells j 0 ≡ 0 → ⊥) → getD (outcome prims map x m .cells) j 0 ≡ getD cells j 0
@@ -81,8 +57,8 @@ module _ (prims : Primitives) (map : Map) (F : fit map ≡ true) where
     unfolding granule
     granule-stays a below h j lo hi = go result
       where
-        blank : {rule : Rule} {from : ℕ} {words : List ℕ} {value : ℕ} → Struck map at n rule from words value
-            → programAnswer rule cells from words ≡ programmed.Done → from ≤ j → j < from + length words → granule (partitionAt map a) cells a ≡ 0
+        blank : {rule : Rule} {from : ℕ} {ws : List ℕ} {value : ℕ} → Struck map at (length words) rule from ws value
+            → programAnswer rule cells from ws ≡ programmed.Done → from ≤ j → j < from + length ws → granule (partitionAt map a) cells a ≡ 0
         blank w k lo′ hi′ =
             let one = shared-word map F below (w .below) lo hi (rw (← w .first, ← w .place) lo′) (rw (← w .first, ← w .count, ← w .place, ← w .size) hi′) in
             blank-part cells _ _ (λ i l u. done-blank _ cells _ i (rw (w .by-rule) at k) (omega (arith, one .first, w .first, w .place))
@@ -95,36 +71,21 @@ module _ (prims : Primitives) (map : Map) (F : fit map ≡ true) where
 
   -- ---- in a list
 
-  stays : {x : Command} {at n : ℕ} → Targets map x at n → (answer : Answer) → staysReady x answer
-  stays writing answer = tt
-  stays digesting answer = tt
-
-  -- where what is lent is right, the answer is that of the act
-  act-code : {x : Command} {at n code : ℕ} → Targets map x at n → (m : Machine) → Right map m → codeOf (answerTo prims map x m) ≡ code
-      → codeOf (outcome prims map x m .answer) ≡ code
-  unfolding act performed
-  act-code {x} target m r e = rw (step-act prims map x m r (stays target _), answerTo) at e
-
-  pub found-blank : (m : Machine) → Right map m → (l : List Command) (x : Command) (at n : ℕ) → Targets map x at n
-      → codeOf (answerTo prims map x (after prims map l m)) ≡ 0x00 → (j : ℕ) → at ≤ j → j < at + n → getD (after prims map l m .lent .cells) j 0 ≡ 0
-  found-blank m r l x at n target e =
-      let m₁ = after prims map l m in
-      target-blank target m₁ (act-code target m₁ (after-right prims map l m r) e)
-
-  pub found-held : (m : Machine) → Right map m → (l : List Command) (x : Command) (at n : ℕ) → Targets map x at n
-      → codeOf (answerTo prims map x (after prims map l m)) ≡ 0x04 → ((j : ℕ) → at ≤ j → j < at + n → getD (after prims map l m .lent .cells) j 0 ≡ 0) → ⊥
-  found-held m r l x at n target e =
-      let m₁ = after prims map l m in
-      target-held target m₁ (act-code target m₁ (after-right prims map l m r) e)
-
-  pub no-second-burn : (m : Machine) (l : List Command) (x : Command) (at n : ℕ) → Targets map x at n
+  pub found-blank : (m : Machine) (l : List Command) (x : Command) (at : ℕ) (words : List ℕ)
       → let m₁ = after prims map l m in
-      (j : ℕ) → (getD (m₁ .lent .cells) j 0 ≡ 0 → ⊥) → getD (machineAfter prims map x m₁ .lent .cells) j 0 ≡ getD (m₁ .lent .cells) j 0
+      Targets prims map m₁ x BlankOnly at words
+      → codeOf (answerTo prims map x m₁) ≡ 0x00 → (j : ℕ) → at ≤ j → j < at + length words → getD (m₁ .lent .cells) j 0 ≡ 0
+  found-blank m l x at words target e j = done-blank words _ at j (target-tells prims map (after prims map l m) target .0 e)
+
+  pub no-second-burn : (m : Machine) (l : List Command) (x : Command) (at : ℕ) (words : List ℕ)
+      → let m₁ = after prims map l m in
+      Targets prims map m₁ x BlankOnly at words
+      → (j : ℕ) → (getD (m₁ .lent .cells) j 0 ≡ 0 → ⊥) → getD (machineAfter prims map x m₁ .lent .cells) j 0 ≡ getD (m₁ .lent .cells) j 0
   unfolding act performed powerUp unchanged
-  no-second-burn m l x at n target j h =
+  no-second-burn m l x at words target j h =
       let m₁ = after prims map l m in
       step-all prims map (λ (s : Step). getD (s .result .machine .lent .cells) j 0 ≡ getD (m₁ .lent .cells) j 0) x m₁ (λ answer. refl) refl
-      (word-stays target m₁ j h)
+      (word-stays m₁ target j h)
 
   module _ (a : ℕ) (below : a < limit map) (direct : rightsOf (partitionAt map a .kind) .direct ≡ true) where
     abbrev first : ℕ
@@ -140,7 +101,7 @@ module _ (prims : Primitives) (map : Map) (F : fit map ≡ true) where
         → getD (outcome prims map x m .cells) j 0 ≡ getD (m .lent .cells) j 0
     word-held m h =
         by-aim map (λ (x : Command). (j : ℕ) → first ≤ j → j < first + count → getD (outcome prims map x m .cells) j 0 ≡ getD (m .lent .cells) j 0)
-        (λ b value. granule-stays writing m a below h) (λ b. granule-stays digesting m a below h)
+        (λ b value. granule-stays m writing a below h) (λ b. granule-stays m digesting a below h)
         (λ x n j lo hi. aimless-granule prims map F m x below direct j lo hi (n j))
 
     step-held : (x : Command) (m : Machine) → Held (m .lent .cells)

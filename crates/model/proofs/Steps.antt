@@ -3,7 +3,7 @@ use mathlib.Core.Path.{_≡_, refl, _∙_}
 use mathlib.Core.Bool.{true, not}
 use mathlib.Core.List.{List, [], _∷_, _++_}
 use Prim.Native.Nat.{ℕ, _/_}
-use lib.Dec.{eqb}
+use lib.Dec.{eqb, ltb}
 use lib.ListN.{length}
 use borrow.Author.Tests.{eqb-true, eq-eqb}
 use Rattle.basics.proofs.Choice.{if-both, if-false, and-three}
@@ -16,11 +16,12 @@ use Rattle.model.specs.declared.Answer.{Answer}
 use Rattle.model.specs.declared.Answer.the-variants.{WrongLength, InvalidConstants}
 use Rattle.model.specs.declared.Command.{Command}
 use Rattle.model.specs.declared.Command.the-variants.{Read, Write, FrontRead, Digest, ReadLock, Transition, PowerUp}
+use Rattle.model.specs.Answers.{codeOf}
 use Rattle.model.specs.Lent.{Lent, Machine, Primitives, rightLengths}
 use Rattle.model.specs.Acts.{Performed, perform}
 use Rattle.model.specs.Commands.{readyAct}
 use Rattle.model.specs.PowerUp.{Waking, fails, wakes, wokenCopy}
-use Rattle.model.specs.Step.{Step, unchanged, performed, act, powerUp, obey, step, after, machineAfter}
+use Rattle.model.specs.Step.{Step, unchanged, performed, act, powerUp, obey, step, after, machineAfter, answerTo}
 use Rattle.model.specs.Terms.{Right}
 use Rattle.model.proofs.Acts.{perform-kept, perform-length}
 
@@ -71,6 +72,14 @@ module _ (prims : Primitives) (map : Map) where
   pub step-all : (Q : Step → Type 0) (x : Command) (m : Machine)
       → ((answer : Answer) → Q (unchanged answer m)) → Q (powerUp prims map m) → Q (act prims map x m) → Q (step prims map x m)
   step-all Q x m u h f = step-both Q x m u (obey-both (λ s _. Q s) x m m h f)
+
+  -- what holds of every answer with a code above 4 and of the answer of the command obeyed
+  pub answer-both : (Q : Answer → Type 0) (x : Command) (m : Machine) → ((answer : Answer) → ltb 4 (codeOf answer) ≡ true → Q answer)
+      → Q (obey prims map x m .result .answer) → Q (answerTo prims map x m)
+  unfolding step unchanged
+  answer-both Q x m u h =
+      let P : Step → Type 0 = λ s. Q (s .result .answer) in
+      if-both P _ _ _ (λ e. u WrongLength refl) (λ e. if-both P _ _ _ (λ e. u InvalidConstants refl) (λ e. h))
 
   -- with right lengths and valid constants the command is obeyed
   pub judged-obeys : (x : Command) (m : Machine) → rightLengths map (m .lent) ≡ true → validConstants (m .lent .constants) ≡ true

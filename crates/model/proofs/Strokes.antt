@@ -22,7 +22,6 @@ use Rattle.partitions.proofs.Map.{life-cycle-last, life-cycle-partition, partit
 use Rattle.life_cycle.specs.declared.LifeCycle.{LifeCycle}
 use Rattle.life_cycle.specs.declared.LifeCycle.the-variants.{Valid, Invalid}
 use Rattle.life_cycle.specs.declared.Token.{Token}
-use Rattle.life_cycle.specs.declared.Token.the-variants.{Nothing, RawUnlock, TestUnlock, TestExit, Rma}
 use Rattle.life_cycle.specs.declared.Entry.{Entry}
 use Rattle.life_cycle.specs.declared.Entry.the-variants.{Allowed, Forbidden}
 use Rattle.life_cycle.specs.Words.{counterWords, stateWords, decoded}
@@ -40,12 +39,13 @@ use Rattle.model.specs.Answers.{codeOf}
 use Rattle.model.specs.Session.{isReady}
 use Rattle.model.specs.Lent.{Lent, Machine, Primitives}
 use Rattle.model.specs.Acts.{Turn, stay, lock, halt, die, turned, Act, say, program, compare, Performed, afterProgram, noting, perform}
-use Rattle.model.specs.Commands.{lifeCycleRule, counterAt, stateAt, moveAct, lockedTokenAct, tokenAct, entryAct, transitionAct, commandAct, readyAct}
+use Rattle.model.specs.Commands.{lifeCycleRule, counterAt, stateAt, moveAct, entryAct, transitionAct, commandAct, readyAct}
 use Rattle.model.specs.PowerUp.{Waking, waking, wakingOf, lifeCycleWaking, verdictOf, lifeCycleIn, wokenSession}
 use Rattle.model.specs.Step.{Step, unchanged, performed, act, powerUp, obey, step, after, machineAfter, answerTo}
 use Rattle.model.specs.Terms.{Right}
 use Rattle.model.specs.Beyond.{Course, stays, spends, moves, Rising}
 use Rattle.model.proofs.Acts.{perform-frame}
+use Rattle.model.proofs.Transitions.{Walk, token-all}
 use Rattle.model.proofs.Frame.{Open, unlocked, lifeCycle, isTransition, life-words, life-closed, life-same, act-within}
 use Rattle.model.proofs.Steps.{after-append, step-all, step-obeys, step-up, step-right, after-right, cells-length, acted, poweredUp}
 use Rattle.model.proofs.Locks.{turned-ready}
@@ -135,31 +135,21 @@ module _ (prims : Primitives) (map : Map) (F : fit map ≡ true) (m : Machine) (
     unfolding moveAct perform afterProgram
     move-ok a = rw (move-fits target a) (reached live room a refl halt-stops (eqb-false _ _ refl))
 
-    compared-ok : {token : Token} → transition (m .session .state) target ≡ Allowed token → (test : List ℕ → Bool) (answer : Answer)
-        → eqb (codeOf answer) 0x04 ≡ false
-        → Ok (perform (compare test (moveAct prims map m target) (say answer halt)) (m .lent .copy) cells₁)
+    -- the walk over a token's acts, where the table allows the target
+    moving : {token : Token} → transition (m .session .state) target ≡ Allowed token → Walk prims map m target (λ (x : Act). Ok (perform x (m .lent .copy) cells₁))
     unfolding perform
-    compared-ok a test answer t = noted prims map m target _ _ (if-both Ok _ _ _ (λ e. move-ok a) (λ e. said answer t))
-
-    locked-ok : (token : Token) (given : ℕ) → transition (m .session .state) target ≡ Allowed token
-        → Ok (perform (lockedTokenAct prims map m token target given) (m .lent .copy) cells₁)
-    unfolding lockedTokenAct
-    locked-ok token given a =
-        if-both (λ (x : Act). Ok (perform x (m .lent .copy) cells₁)) _ _ _ (λ e. said TokenNotLocked refl) (λ e. compared-ok a _ TokenDiffers refl)
-
-    token-ok : (token : Token) (given : ℕ) → transition (m .session .state) target ≡ Allowed token
-        → Ok (perform (tokenAct prims map m token target given) (m .lent .copy) cells₁)
-    unfolding tokenAct
-    token-ok Nothing given a = move-ok a
-    token-ok RawUnlock given a = compared-ok a _ TokenDiffers refl
-    token-ok TestUnlock given a = locked-ok TestUnlock given a
-    token-ok TestExit given a = locked-ok TestExit given a
-    token-ok Rma given a = locked-ok Rma given a
+    moving a = record {
+      moved = move-ok a;
+      forbidden = said NotInTable refl;
+      open? = said TokenNotLocked refl;
+      differs = said TokenDiffers refl;
+      compared = λ test same other f g. noted prims map m target _ _ (if-both Ok _ _ _ (λ e. f) (λ e. g));
+    }
 
     entry-ok : (e : Entry) (given : ℕ) → transition (m .session .state) target ≡ e → Ok (perform (entryAct prims map m e target given) (m .lent .copy) cells₁)
     unfolding entryAct
     entry-ok Forbidden given a = said NotInTable refl
-    entry-ok (Allowed token) given a = token-ok token given a
+    entry-ok (Allowed token) given a = token-all prims map m target _ (moving a) token given
 
     spend-ok : (given : ℕ) → Ok (perform (program lifeCycleRule (counterAt map) counter die (entryAct prims map m (transition (m .session .state) target) target given)) (m .lent .copy) (m .lent .cells))
     unfolding perform afterProgram

@@ -12,7 +12,8 @@ use Rattle.model.proofs.Refusals.{commands-refuse, power-ups-refuse, tr
 use Rattle.model.proofs.Deaths.{deaths-told}
 use Rattle.model.proofs.Steps.{bits-stay}
 use Rattle.model.proofs.Locks.{locked-since}
-use Rattle.model.proofs.SecondBurns.{found-blank, found-held, no-second-burn, granule-final}
+use Rattle.model.proofs.NamedWords.{refused-named, locked-denied}
+use Rattle.model.proofs.SecondBurns.{found-blank, no-second-burn, granule-final}
 use Rattle.model.proofs.Writes.{write-taken, reads-back, reads-last}
 use Rattle.model.proofs.Chips.{two-chips}
 use Rattle.model.proofs.Digests.{whole-digests}
@@ -43,9 +44,10 @@ demand3 prims C map F = record {
 pub beyond : (prims : Primitives) → Cipher prims → (map : Map) → fit map ≡ true → Beyond prims map
 beyond prims C map F = record {
   taken = found-blank prims map F;
-  refused = found-held prims map F;
   burns = no-second-burn prims map F;
   granules = granule-final prims map F;
+  refused = refused-named prims map;
+  locked = locked-denied prims map;
   lasting = reads-last prims C map F;
   whole = λ m r n D l. whole-digests prims map F n D l m r;
   device = device-final prims map F;

@@ -20,10 +20,11 @@ codeOf NotInTable = 0x21
 codeOf TokenNotLocked = 0x22
 codeOf TokenDiffers = 0x23
 
--- stated: what is done, "value: partition" of a 6, and the value of a power-up that found no usable life cycle; a 4 does not tell its cell
+-- stated: what is done, the word index at which programming was refused ("each command that answers 4 carries it as the value", request Five),
+-- "value: partition" of a 6, and the value of a power-up that found no usable life cycle
 abbrev pub valueOf : Answer → ℕ
 valueOf (Done value) = value
-valueOf (NotBlank cell) = 0
+valueOf (NotBlank cell) = cell
 valueOf Denied = 0
 valueOf (DigestFailed partition) = partition
 valueOf NotReady = 0

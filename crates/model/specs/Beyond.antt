@@ -1,24 +1,29 @@
--- Beyond demand 3, in the same style: nothing is burnt twice, what a write stored is what is ever read, a digest is never written in part, the device code
--- is final, the life cycle only goes forward, and what only a power-up or a transition changes.
+-- Beyond demand 3, in the same style: nothing is burnt twice, a refusal names its word, what a write stored is what is ever read, a digest is never written in
+-- part, the device code is final, the life cycle only goes forward, and what only a power-up or a transition changes.
 use Prim.Native.Nat.{ℕ, suc, _+_, _/_, _%_, _^_, _≤_, _<_}
 use mathlib.Core.Path.{_≡_}
 use mathlib.Core.Bool.{true}
 use mathlib.Core.List.{List, [], _∷_, _++_}
-use lib.ListN.{getD}
-use Rattle.words.specs.Words.{numberOf, partAt}
+use lib.ListN.{length, getD}
+use Rattle.words.specs.declared.Rule.{Rule}
+use Rattle.words.specs.declared.Rule.the-variants.{BlankOnly}
+use Rattle.words.specs.Words.{numberOf, wordsOf, partAt}
+use Rattle.words.specs.Programming.{Lowest}
 use Rattle.partitions.specs.Map.{Map, rightsOf, numberAt, partition, partitionAt, limit, inDigest, firstWord, wordCount}
 use Rattle.life_cycle.specs.declared.LifeCycle.{LifeCycle}
 use Rattle.life_cycle.specs.declared.LifeCycle.the-variants.{Valid}
 use Rattle.life_cycle.specs.declared.Token.{Token}
 use Rattle.life_cycle.specs.declared.Entry.the-variants as entry
+use Rattle.life_cycle.specs.Words.{counterWords, stateWords}
 use Rattle.life_cycle.specs.Transitions.{transition}
 use Rattle.model.specs.declared.Answer.{Answer}
 use Rattle.model.specs.declared.Answer.the-variants.{Done}
 use Rattle.model.specs.declared.Command.{Command}
-use Rattle.model.specs.declared.Command.the-variants.{Read, Write, FrontRead, Digest, PowerUp}
-use Rattle.model.specs.Answers.{codeOf}
+use Rattle.model.specs.declared.Command.the-variants.{Read, Write, FrontRead, Digest, Transition, PowerUp}
+use Rattle.model.specs.Answers.{codeOf, valueOf}
+use Rattle.model.specs.Session.{isReady, sensedLocked}
 use Rattle.model.specs.Lent.{Machine, Primitives}
-use Rattle.model.specs.Commands.{granule, storedDigest}
+use Rattle.model.specs.Commands.{directRule, lifeCycleRule, granule, storedDigest, computedDigest, counterAt}
 use Rattle.model.specs.PowerUp.{lifeCycleIn}
 use Rattle.model.specs.Step.{step, after, machineAfter, answerTo}
 use Rattle.model.specs.Terms.{Right, Digested, storedWords, Spared, Allowed, usedValue, quiet}
@@ -31,11 +36,6 @@ pub data Course (x : LifeCycle) : LifeCycle → Type 0 where
   moves : {state count target : ℕ} {token : Token} → Course x (Valid state count) → transition state target ≡ entry.Allowed token
       → Course x (Valid target (suc count))
 
--- the target granule of a direct access write, or of a digest command: its first word, and how many there are
-pub data Targets (map : Map) : Command → ℕ → ℕ → Type 0 where
-  writing : {a value : ℕ} → Targets map (Write a value) (firstWord (partitionAt map a) a) (wordCount (partitionAt map a) a)
-  digesting : {a : ℕ} → Targets map (Digest a) (partitionAt map a .digest / 2) 4
-
 -- the command puts a number of 64 bits in the digest of partition n, whole: a write of it there, or a digest command that answers it; and it answers 0
 pub data Puts (map : Map) (n digest : ℕ) : Command → Answer → Type 0 where
   writes : {a value : ℕ} → numberAt map a ≡ n → inDigest (partition map n) a ≡ true → value % 2 ^ 64 ≡ digest → Puts map n digest (Write a value) (Done 0)
@@ -45,7 +45,29 @@ abbrev pub Quiet : List Command → Type 0
 Quiet [] = Unit {0}
 Quiet (x ∷ l) = quiet x × Quiet l
 
+-- an answer's code and value
+abbrev pub Says : ℕ → ℕ → Answer → Type 0
+Says code value answer = (codeOf answer ≡ code) × (valueOf answer ≡ value)
+
 module _ (prims : Primitives) (map : Map) where
+  -- what a command is to program: by which rule, from which word on, and the words. A write and a digest command have a target granule; a transition
+  -- has life cycle words, the counter's of one stroke more and then the state's.
+  pub data Targets (m : Machine) : Command → Rule → ℕ → List ℕ → Type 0 where
+    writing : {a value : ℕ} → Targets m (Write a value) directRule (firstWord (partitionAt map a) a) (storedWords prims map (m .lent .constants) a value)
+    digesting : {a : ℕ}
+        → Targets m (Digest a) directRule (partitionAt map a .digest / 2) (wordsOf 4 (computedDigest prims (m .lent .constants) (partitionAt map a) (m .lent .cells)))
+    moving : {target high low : ℕ}
+        → Targets m (Transition target high low) lifeCycleRule (counterAt map)
+        (counterWords (m .lent .constants) (suc (m .session .count)) ++ stateWords (m .lent .constants) target)
+
+  -- the word i is the lowest of those that the command is to program that refuses
+  pub record Named (m : Machine) (x : Command) (i : ℕ) : Type 0 where
+    pub rule : Rule
+    pub at : ℕ
+    pub words : List ℕ
+    pub target : Targets m x rule at words
+    pub lowest : Lowest rule (m .lent .cells) at words i
+
   -- where a digest comes from that partition n holds after the commands l: it was there before them, or one of them put it there
   pub data Source (m : Machine) (l : List Command) (n digest : ℕ) : Type 0 where
     found : storedDigest (partition map n) (m .lent .cells) ≡ digest → Source m l n digest
@@ -53,24 +75,33 @@ module _ (prims : Primitives) (map : Map) where
         → Puts map n digest x (answerTo prims map x (after prims map l₁ m)) → Source m l n digest
 
   pub record Beyond : Type 0 where
-    -- Nothing is burnt twice. A direct access write or digest command that answers 0, wherever in a list, found every word of its target granule zero;
-    -- one that answers 4 did not.
-    pub taken : (m : Machine) → Right map m → (l : List Command) (x : Command) (at n : ℕ) → Targets map x at n
+    -- Nothing is burnt twice. A command with a target granule (a direct access write or digest command) that answers 0, wherever in a list, found every
+    -- word of the granule zero.
+    pub taken : (m : Machine) (l : List Command) (x : Command) (at : ℕ) (words : List ℕ)
         → let m₁ = after prims map l m in
-        codeOf (answerTo prims map x m₁) ≡ 0x00 → (j : ℕ) → at ≤ j → j < at + n → getD (m₁ .lent .cells) j 0 ≡ 0
-    pub refused : (m : Machine) → Right map m → (l : List Command) (x : Command) (at n : ℕ) → Targets map x at n
+        Targets m₁ x BlankOnly at words
+        → codeOf (answerTo prims map x m₁) ≡ 0x00 → (j : ℕ) → at ≤ j → j < at + length words → getD (m₁ .lent .cells) j 0 ≡ 0
+    -- Whatever a command with a target granule answers, and whatever the list, it changes no word that is not zero.
+    pub burns : (m : Machine) (l : List Command) (x : Command) (at : ℕ) (words : List ℕ)
         → let m₁ = after prims map l m in
-        codeOf (answerTo prims map x m₁) ≡ 0x04 → ((j : ℕ) → at ≤ j → j < at + n → getD (m₁ .lent .cells) j 0 ≡ 0) → ⊥
-    -- Whatever it answers, and whatever the list, it changes no word that is not zero.
-    pub burns : (m : Machine) (l : List Command) (x : Command) (at n : ℕ) → Targets map x at n
-        → let m₁ = after prims map l m in
-        (j : ℕ) → (getD (m₁ .lent .cells) j 0 ≡ 0 → ⊥) → getD (machineAfter prims map x m₁ .lent .cells) j 0 ≡ getD (m₁ .lent .cells) j 0
+        Targets m₁ x BlankOnly at words
+        → (j : ℕ) → (getD (m₁ .lent .cells) j 0 ≡ 0 → ⊥) → getD (machineAfter prims map x m₁ .lent .cells) j 0 ≡ getD (m₁ .lent .cells) j 0
     -- A granule that direct access reaches, once it is not blank, never changes, whatever follows.
     pub granules : (m : Machine) (a : ℕ) → a < limit map → rightsOf (partitionAt map a .kind) .direct ≡ true → (l₁ l₂ : List Command)
         → let p = partitionAt map a in
         (granule p (after prims map l₁ m .lent .cells) a ≡ 0 → ⊥)
         → partAt (after prims map (l₁ ++ l₂) m .lent .cells) (firstWord p a) (wordCount p a)
         ≡ partAt (after prims map l₁ m .lent .cells) (firstWord p a) (wordCount p a)
+    -- Which word (request Five). A command that answers 4 answers the lowest word of its target that refuses, counted over the whole array.
+    pub refused : (m : Machine) (l : List Command) (x : Command)
+        → let m₁ = after prims map l m in
+        let answer = answerTo prims map x m₁ in
+        codeOf answer ≡ 0x04 → Named m₁ x (valueOf answer)
+    -- "A locked partition still answers 5 with value 0 first", whatever its words are.
+    pub locked : (m : Machine) → Right map m → (l : List Command) (a value : ℕ)
+        → let m₁ = after prims map l m in
+        isReady (m₁ .session .phase) ≡ true → sensedLocked (m₁ .session) (numberAt map a) ≡ true
+        → Says 0x05 0 (answerTo prims map (Write a value) m₁) × Says 0x05 0 (answerTo prims map (Digest a) m₁)
     -- what a write that the rules allowed has stored is what is ever read there: whatever follows, power-ups and transitions too, each read of its
     -- granule that answers 0 answers the data used. Only where the stored form is zero may the granule be written again: there, while no other write
     -- to it answers 0.

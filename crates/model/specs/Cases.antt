@@ -107,7 +107,7 @@ module _ (s : ℕ) where
         left = none;
       }
       -- One half is not written after the other, nor both (request Three).
-      ∷ case (PowerUp ∷ Write (s + 0xF8) 1 ∷ Write (s + 0xFC) 0x100000000 ∷ Write (s + 0xF8) 0x100000001 ∷ []) ((0x00, 0) ∷ (0x00, 0) ∷ (0x04, 0) ∷ (0x04, 0) ∷ [])
+      ∷ case (PowerUp ∷ Write (s + 0xF8) 1 ∷ Write (s + 0xFC) 0x100000000 ∷ Write (s + 0xF8) 0x100000001 ∷ []) ((0x00, 0) ∷ (0x00, 0) ∷ (0x04, (s + 0xF8) / 2) ∷ (0x04, (s + 0xF8) / 2) ∷ [])
       -- A digest whose low half is zero locks like any other.
       ∷ case (PowerUp ∷ Write (s + 0xF8) 0x100000000 ∷ PowerUp ∷ Write (s + 0xF7) 1 ∷ Write (s + 0xF8) 0x100000001 ∷ [])
       ((0x00, 0) ∷ (0x00, 0) ∷ (0x00, 0) ∷ (0x05, 0) ∷ (0x05, 0) ∷ [])
@@ -127,11 +127,11 @@ module _ (s : ℕ) where
       record {
         cells = blank;
         commands = PowerUp ∷ Write s 0x0F ∷ Write s 0x0F ∷ Write s 0xFF ∷ Write s 0 ∷ PowerUp ∷ Write s 0xFF ∷ [];
-        expected = (0x00, 0) ∷ (0x00, 0) ∷ (0x04, 0) ∷ (0x04, 0) ∷ (0x04, 0) ∷ (0x00, 0) ∷ (0x04, 0) ∷ [];
+        expected = (0x00, 0) ∷ (0x00, 0) ∷ (0x04, s / 2) ∷ (0x04, s / 2) ∷ (0x04, s / 2) ∷ (0x00, 0) ∷ (0x04, s / 2) ∷ [];
         left = some (holding (s / 2) (0x0F ∷ []));
       }
       -- Its other word is blank, and does not take a value either; the next granule does.
-      ∷ case (PowerUp ∷ Write s 0x10000 ∷ Write s 0x10001 ∷ Write (s + 4) 1 ∷ []) ((0x00, 0) ∷ (0x00, 0) ∷ (0x04, 0) ∷ (0x00, 0) ∷ [])
+      ∷ case (PowerUp ∷ Write s 0x10000 ∷ Write s 0x10001 ∷ Write (s + 4) 1 ∷ []) ((0x00, 0) ∷ (0x00, 0) ∷ (0x04, s / 2 + 1) ∷ (0x00, 0) ∷ [])
       -- A zero in a blank granule answers 0 and changes nothing, so that a value can follow.
       ∷ record { cells = blank; commands = PowerUp ∷ Write s 0 ∷ Write s 0 ∷ []; expected = (0x00, 0) ∷ (0x00, 0) ∷ (0x00, 0) ∷ []; left = some blank }
       ∷ case (PowerUp ∷ Write s 0 ∷ Write s 5 ∷ Read s ∷ []) ((0x00, 0) ∷ (0x00, 0) ∷ (0x00, 0) ∷ (0x00, 5) ∷ [])

@@ -116,13 +116,13 @@ impl Answer {
         }
     }
 
-    // The value that goes with it: 0 unless the paper states one.
+    // The value that goes with it: 0 unless the paper states one. That of a 4 is the cell.
     pub fn value(self) -> u64
         ensures { λ r. ⌜ r ≡ valueOf self ⌝ }
     {
         match self {
             Answer::Done(value) => value,
-            Answer::NotBlank(_) => 0,
+            Answer::NotBlank(cell) => cell as u64,
             Answer::Denied => 0,
             Answer::DigestFailed(partition) => partition as u64,
             Answer::NotReady => 0,

@@ -16,7 +16,7 @@ use Rattle.words.specs.declared.Programmed.{Programmed}
 use Rattle.words.specs.declared.Programmed.the-variants.{Done, Refused}
 use Rattle.words.specs.Programming.{refuses, programAnswer, programCells}
 use Rattle.words.proofs.Parts.{sets-past}
-use Rattle.words.proofs.Programming.{answer-next, answer-stop, by-answer, blank-done, refused-lowest, stored-done, stored-refused}
+use Rattle.words.proofs.Programming.{answer-next, answer-stop, by-answer, append-stop, append-next, blank-done, refused-lowest, stored-done, stored-refused}
 
 -- ---- the loop over a part: one word more is tested
 
@@ -47,9 +47,9 @@ pub past-cells : (rule : Rule) (c vs : List ℕ) (at : ℕ) → length c ≤ at 
 past-cells rule c vs at h = (sym (past-done rule vs c at h), sym (stored-done rule c vs at (past-done rule vs c at h) ∙ sets-past vs c at h))
 
 front-answer : (rule : Rule) (xs ys c : List ℕ) (at : ℕ) → length c ≤ at + length xs → programAnswer rule c at (xs ++ ys) ≡ programAnswer rule c at xs
-unfolding programAnswer
-front-answer rule [] ys c at h = past-done rule ys c at (omega arith)
-front-answer rule (x ∷ xs) ys c at h = ap (λ (r : Programmed). if refuses rule (getD c at 0) x then Refused at else r) (front-answer rule xs ys c (suc at) (omega arith))
+front-answer rule xs ys c at h =
+    by-answer (programAnswer rule c at xs) (λ e. append-next rule xs ys c at e ∙ past-done rule ys c (at + length xs) h ∙ sym e)
+    (λ i e. append-stop rule xs ys c at i e ∙ sym e)
 
 front-sets : (xs ys c : List ℕ) (at : ℕ) → length c ≤ at + length xs → sets c at (xs ++ ys) ≡ sets c at xs
 front-sets [] ys c at h = sets-past ys c at (omega arith)
@@ -132,4 +132,4 @@ module _ (rule : Rule) (c vs : List ℕ) (at n : ℕ) (inside : at + n ≤ lengt
   pub refused-within : (k : ℕ) → k ≡ n → (i : ℕ) → programAnswer rule (take k (drop at c)) 0 value ≡ Refused i → i < n
   refused-within k e i a =
       let l = refused-lowest rule value (take k (drop at c)) 0 i a in
-      omega (arith, l .place, l .inside, value-length)
+      omega (arith, l .to, value-length)

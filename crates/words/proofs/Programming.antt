@@ -1,7 +1,7 @@
 -- Laws of programming, by any rule of refusal. The idea: the answer goes word by word from the lowest, so each law is an induction on the value.
 use mathlib.Core.Path.{_≡_, refl, sym, ap₂, _∙_}
 use mathlib.Core.Bool.{true, false}
-use mathlib.Core.List.{List, [], _∷_}
+use mathlib.Core.List.{List, [], _∷_, _++_}
 use Prim.Native.Nat.{ℕ, zero, suc, _+_, _-_, _≤_, _<_}
 use native.Mathlib.Nat.{le-refl, le-trans, add-zero, add-suc, suc-add}
 use native.Mathlib.Omega.{arith}
@@ -18,7 +18,7 @@ use Rattle.words.specs.declared.Rule.the-variants.{KeepBits, BlankOnly}
 use Rattle.words.specs.declared.Programmed.{Programmed}
 use Rattle.words.specs.declared.Programmed.the-variants.{Done, Refused}
 use Rattle.words.specs.Words.{partAt}
-use Rattle.words.specs.Programming.{losesBit, refuses, programAnswer, stored, programCells, Kept}
+use Rattle.words.specs.Programming.{losesBit, refuses, programAnswer, stored, programCells, Lowest, Kept}
 use Rattle.words.proofs.Parts.{part-sets, sets-elsewhere}
 use Rattle.words.proofs.Rules.{keeps-bit, blank-passes, passed-keeps, kept-passes, blank-passed}
 
@@ -56,39 +56,68 @@ module _ (rule : Rule) where
       ap₂ (λ (x : ℕ) (r : Programmed). if refuses rule x v then Refused at else r) (h at (omega arith) (omega arith))
       (answer-same vs c d (suc at) (λ j l u. h j (omega arith) (omega arith)))
 
-  -- the refusing cell lies in the part and refuses its word; each cell below it took its word
-  pub record Lowest (c : List ℕ) (at : ℕ) (vs : List ℕ) (i : ℕ) : Type 0 where
-    pub offset : ℕ
-    pub place : i ≡ at + offset
-    pub inside : offset < length vs
-    pub refused : refuses rule (getD c i 0) (getD vs offset 0) ≡ true
-    pub lower : (j : ℕ) → j < offset → refuses rule (getD c (at + j) 0) (getD vs j 0) ≡ false
+  -- done: the first word was taken, and the rest
+  done-first : (c vs : List ℕ) (at v : ℕ) → programAnswer rule c at (v ∷ vs) ≡ Done → refuses rule (getD c at 0) v ≡ false
+  done-first c vs at v e = by-cases (refuses rule (getD c at 0) v) (λ t. absurd (refused-not-done (sym (answer-stop c vs at v t) ∙ e))) (λ t. t)
 
-  pub refused-lowest : (vs c : List ℕ) (at i : ℕ) → programAnswer rule c at vs ≡ Refused i → Lowest c at vs i
-  unfolding programAnswer
-  refused-lowest [] c at i e = absurd (refused-not-done (sym e))
-  refused-lowest (v ∷ vs) c at i e = by-cases (refuses rule (getD c at 0) v) here (later (refused-lowest vs c (suc at) i))
+  done-rest : (c vs : List ℕ) (at v : ℕ) → programAnswer rule c at (v ∷ vs) ≡ Done → programAnswer rule c (suc at) vs ≡ Done
+  done-rest c vs at v e = sym (answer-next c vs at v (done-first c vs at v e)) ∙ e
+
+  -- a value and another behind it: the first is refused, or the second decides
+  pub append-stop : (vs ws c : List ℕ) (at i : ℕ) → programAnswer rule c at vs ≡ Refused i → programAnswer rule c at (vs ++ ws) ≡ Refused i
+  append-stop [] ws c at i e = unfold programAnswer in (absurd (refused-not-done (sym e)))
+  append-stop (v ∷ vs) ws c at i e =
+      by-cases (refuses rule (getD c at 0) v) (λ t. answer-stop c (vs ++ ws) at v t ∙ sym (answer-stop c vs at v t) ∙ e)
+      (λ t. answer-next c (vs ++ ws) at v t ∙ append-stop vs ws c (suc at) i (sym (answer-next c vs at v t) ∙ e))
+
+  pub append-next : (vs ws c : List ℕ) (at : ℕ) → programAnswer rule c at vs ≡ Done → programAnswer rule c at (vs ++ ws) ≡ programAnswer rule c (at + length vs) ws
+  append-next [] ws c at e = rw add-zero
+  append-next (v ∷ vs) ws c at e =
+      answer-next c (vs ++ ws) at v (done-first c vs at v e) ∙ append-next vs ws c (suc at) (done-rest c vs at v e) ∙ rw (add-suc, suc-add)
+
+  -- ---- word by word
+
+  -- the first word of a value, and those of the rest
+  first-word : (vs : List ℕ) (at v : ℕ) → getD (v ∷ vs) (at - at) 0 ≡ v
+  first-word vs at v = let q : at - at ≡ 0 = omega arith in rw q
+
+  rest-word : (vs : List ℕ) (at v j : ℕ) → suc at ≤ j → getD (v ∷ vs) (j - at) 0 ≡ getD vs (j - suc at) 0
+  rest-word vs at v j l = let q : j - at ≡ suc (j - suc at) = omega arith in rw q
+
+  abbrev Passes : List ℕ → ℕ → List ℕ → ℕ → Type 0
+  Passes c at vs j = refuses rule (getD c j 0) (getD vs (j - at) 0) ≡ false
+
+  -- what is asked of every word up to an end is asked of the first and of the rest
+  passes-all : (c vs : List ℕ) (at v end : ℕ) → refuses rule (getD c at 0) v ≡ false → ((j : ℕ) → suc at ≤ j → j < end → Passes c (suc at) vs j)
+      → (j : ℕ) → at ≤ j → j < end → Passes c at (v ∷ vs) j
+  passes-all c vs at v end t h j l u =
+      by-cases (eqb j at) (λ q. rw (eqb-true j at q, first-word) t)
+      (λ q. let k : suc at ≤ j = omega (arith, eqb-false j at q) in rw (rest-word vs at v j k) (h j k u))
+
+  -- done: every word passes
+  done-passed : (vs c : List ℕ) (at : ℕ) → programAnswer rule c at vs ≡ Done → (j : ℕ) → at ≤ j → j < at + length vs → Passes c at vs j
+  done-passed [] c at e = λ j l u. absurd (omega arith)
+  done-passed (v ∷ vs) c at e =
+      passes-all c vs at v _ (done-first c vs at v e) (λ j l u. done-passed vs c (suc at) (done-rest c vs at v e) j l (omega arith))
+
+  -- refused: the lowest word that does not
+  pub refused-lowest : (vs c : List ℕ) (at i : ℕ) → programAnswer rule c at vs ≡ Refused i → Lowest rule c at vs i
+  refused-lowest [] c at i e = unfold programAnswer in (absurd (refused-not-done (sym e)))
+  refused-lowest (v ∷ vs) c at i e = by-cases (refuses rule (getD c at 0) v) here (λ t. later t (refused-lowest vs c (suc at) i (sym (answer-next c vs at v t) ∙ e)))
     where
-      here : refuses rule (getD c at 0) v ≡ true → Lowest c at (v ∷ vs) i
+      here : refuses rule (getD c at 0) v ≡ true → Lowest rule c at (v ∷ vs) i
       here t =
-          let q : Refused at ≡ Refused i = sym (if-true _ _ t) ∙ e in
+          let q : Refused at ≡ Refused i = sym (answer-stop c vs at v t) ∙ e in
           let p : at ≡ i = cc in
-          record { offset = 0; place = omega arith; inside = omega arith; refused = rw (← p) t; lower = λ j l. absurd (omega arith) }
+          rw (← p) (record { from = le-refl at; to = omega arith; refusing = rw first-word t; lower = λ j l u. absurd (omega arith) })
 
-      lower : (n : ℕ) → refuses rule (getD c at 0) v ≡ false → ((j : ℕ) → j < n → refuses rule (getD c (suc at + j) 0) (getD vs j 0) ≡ false)
-          → (j : ℕ) → j < suc n → refuses rule (getD c (at + j) 0) (getD (v ∷ vs) j 0) ≡ false
-      lower n t h zero l = rw add-zero t
-      lower n t h (suc j) l = rw (add-suc, ← suc-add) (h j (omega arith))
-
-      later : (programAnswer rule c (suc at) vs ≡ Refused i → Lowest c (suc at) vs i) → refuses rule (getD c at 0) v ≡ false → Lowest c at (v ∷ vs) i
-      later rest t =
-          let r : Lowest c (suc at) vs i = rest (sym (if-false _ _ t) ∙ e) in
+      later : refuses rule (getD c at 0) v ≡ false → Lowest rule c (suc at) vs i → Lowest rule c at (v ∷ vs) i
+      later t r =
           record {
-            offset = suc (r .offset);
-            place = omega (arith, r .place);
-            inside = omega (arith, r .inside);
-            refused = r .refused;
-            lower = lower (r .offset) t (r .lower);
+            from = omega (arith, r .from);
+            to = omega (arith, r .to);
+            refusing = rw (rest-word vs at v i (r .from)) (r .refusing);
+            lower = passes-all c vs at v i t (r .lower);
           }
 
   -- a refusing cell holds a bit, so it is one of the cells
@@ -96,7 +125,7 @@ module _ (rule : Rule) where
   refused-inside c vs at i e =
       let r = refused-lowest vs c at i e in
       by-cases (ltb i (length c)) (ltb-true _ _)
-      (λ t. absurd (true-not-false (r .refused) (rw (List·getD-eq-default c 0 {n = i} (ltb-false _ _ t)) (blank-passes rule (getD vs (r .offset) 0)))))
+      (λ t. absurd (true-not-false (r .refusing) (rw (List·getD-eq-default c 0 {n = i} (ltb-false _ _ t)) (blank-passes rule (getD vs (i - at) 0)))))
 
   -- ---- the cells
 
@@ -121,18 +150,6 @@ module _ (rule : Rule) where
   -- after success the part is the value
   pub program-takes : (c vs : List ℕ) (at : ℕ) → at + length vs ≤ length c → programAnswer rule c at vs ≡ Done → partAt (programCells rule c at vs) at (length vs) ≡ vs
   program-takes c vs at h e = rw (stored-done c vs at e) (part-sets vs c at h)
-
-  -- done: the first word was taken, and the rest; so every word was
-  done-first : (c vs : List ℕ) (at v : ℕ) → programAnswer rule c at (v ∷ vs) ≡ Done → refuses rule (getD c at 0) v ≡ false
-  done-first c vs at v e = by-cases (refuses rule (getD c at 0) v) (λ t. absurd (refused-not-done (sym (answer-stop c vs at v t) ∙ e))) (λ t. t)
-
-  done-rest : (c vs : List ℕ) (at v : ℕ) → programAnswer rule c at (v ∷ vs) ≡ Done → programAnswer rule c (suc at) vs ≡ Done
-  done-rest c vs at v e = sym (answer-next c vs at v (done-first c vs at v e)) ∙ e
-
-  done-passed : (vs c : List ℕ) (at i : ℕ) → programAnswer rule c at vs ≡ Done → i < length vs → refuses rule (getD c (at + i) 0) (getD vs i 0) ≡ false
-  done-passed [] c at i e l = absurd (omega arith)
-  done-passed (v ∷ vs) c at zero e l = rw add-zero (done-first c vs at v e)
-  done-passed (v ∷ vs) c at (suc i) e l = rw (add-suc, ← suc-add) (done-passed vs c (suc at) i (done-rest c vs at v e) (omega arith))
 
   -- ---- no bit is lost
 
@@ -177,6 +194,4 @@ blank-done rule (v ∷ vs) c at h =
     ∙ blank-done rule vs c (suc at) (λ j l u. h j (omega arith) (omega arith))
 
 pub done-blank : (vs c : List ℕ) (at j : ℕ) → programAnswer BlankOnly c at vs ≡ Done → at ≤ j → j < at + length vs → getD c j 0 ≡ 0
-done-blank vs c at j e l u =
-    let q : at + (j - at) ≡ j = omega arith in
-    rw q at (blank-passed _ _ (done-passed BlankOnly vs c at (j - at) e (omega arith)))
+done-blank vs c at j e l u = blank-passed _ _ (done-passed BlankOnly vs c at e j l u)

@@ -1,0 +1,112 @@
+-- Which word a 4 names. The idea: a 4 comes of programming a target alone, and programming names the lowest word that refuses; a locked partition is refused before
+-- its words are asked.
+use mathlib.Core.Path.{_≡_, refl, sym, ap, _∙_}
+use mathlib.Core.Bool.{Bool, true, false, not}
+use mathlib.Core.List.{List, []}
+use Prim.Native.Nat.{ℕ}
+use native.Mathlib.Omega.{arith}
+use lib.Dec.{ltb}
+use borrow.Author.Tests.{ltb-true, eqb-false}
+use Rattle.basics.specs.Choice.{if_then_else_}
+use Rattle.basics.proofs.Choice.{if-both, if-true, if-false}
+use Rattle.words.specs.declared.Rule.{Rule}
+use Rattle.words.specs.declared.Rule.the-variants.{BlankOnly}
+use Rattle.words.specs.Programming.{programAnswer}
+use Rattle.words.proofs.Programming.{refused-not-done, refused-lowest}
+use Rattle.partitions.specs.Map.{Map, numberAt}
+use Rattle.model.specs.declared.Answer.{Answer}
+use Rattle.model.specs.declared.Answer.the-variants.{Denied}
+use Rattle.model.specs.declared.Command.{Command}
+use Rattle.model.specs.declared.Command.the-variants.{Read, Write, FrontRead, Digest, ReadLock, Transition, PowerUp}
+use Rattle.model.specs.Answers.{codeOf, valueOf}
+use Rattle.model.specs.Session.{isReady, sensedLocked}
+use Rattle.model.specs.Lent.{Machine, Primitives}
+use Rattle.model.specs.Acts.{Act, refuse, perform}
+use Rattle.model.specs.Commands.{writeAct, readAct, frontReadAct, digestAct, readLockAct, commandAct, readyAct}
+use Rattle.model.specs.PowerUp.{waking}
+use Rattle.model.specs.Step.{performed, act, powerUp, obey, after, answerTo}
+use Rattle.model.specs.Terms.{Right}
+use Rattle.model.specs.Beyond.{Says, Targets, writing, digesting, moving, Named}
+use Rattle.model.proofs.Programs.{Programs, refuses, ends, programs-either, Tells, tells-nothing, perform-programs}
+use Rattle.model.proofs.Steps.{answer-both, step-obeys, after-right}
+use Rattle.model.proofs.Targets.{target-programs}
+use Rattle.model.proofs.Waking.{woken-answer}
+
+module _ (prims : Primitives) (map : Map) (m : Machine) where
+  abbrev cells : List ℕ
+  cells = m .lent .cells
+
+  -- ---- a command with a target
+
+  act-tells : {rule : Rule} {at : ℕ} {words : List ℕ} (x : Command) → obey prims map x m ≡ act prims map x m → Programs rule at words (readyAct prims map m x)
+      → Tells rule cells at words (answerTo prims map x m)
+  unfolding act performed
+  act-tells {rule} {at} {words} x e p =
+      answer-both prims map (Tells rule cells at words) x m (tells-nothing rule cells at words) (rw e (perform-programs p (m .lent .copy) cells))
+
+  target-acts : {x : Command} {rule : Rule} {at : ℕ} {words : List ℕ} → Targets prims map m x rule at words → obey prims map x m ≡ act prims map x m
+  unfolding obey
+  target-acts writing = refl
+  target-acts digesting = refl
+  target-acts moving = refl
+
+  pub target-tells : {x : Command} {rule : Rule} {at : ℕ} {words : List ℕ} → Targets prims map m x rule at words → Tells rule cells at words (answerTo prims map x m)
+  target-tells {x} target = act-tells x (target-acts target) (target-programs prims map m target)
+
+  target-named : {x : Command} {rule : Rule} {at : ℕ} {words : List ℕ} → Targets prims map m x rule at words → codeOf (answerTo prims map x m) ≡ 0x04
+      → Named prims map m x (valueOf (answerTo prims map x m))
+  target-named {rule = rule} {at = at} {words = words} target e =
+      record { rule = rule; at = at; words = words; target = target; lowest = refused-lowest rule words cells at _ (target-tells target .1 e) }
+
+  -- ---- every other command programs nothing, and never answers 4
+
+  idle : (x : Command) → obey prims map x m ≡ act prims map x m → Programs BlankOnly 0 [] (readyAct prims map m x) → codeOf (answerTo prims map x m) ≡ 0x04 → ⊥
+  unfolding programAnswer
+  idle x e p f = refused-not-done (sym (act-tells x e p .1 f))
+
+  up-idle : codeOf (answerTo prims map PowerUp m) ≡ 0x04 → ⊥
+  unfolding obey powerUp waking
+  up-idle =
+      answer-both prims map (λ (answer : Answer). codeOf answer ≡ 0x04 → ⊥) PowerUp m (λ answer e f. omega (arith, ltb-true 4 (codeOf answer) e))
+      (woken-answer (λ (answer : Answer). codeOf answer ≡ 0x04 → ⊥) _ _ (λ value. eqb-false _ _ refl) (λ number. eqb-false _ _ refl) (λ value. eqb-false _ _ refl))
+
+  named : (x : Command) → codeOf (answerTo prims map x m) ≡ 0x04 → Named prims map m x (valueOf (answerTo prims map x m))
+  unfolding obey readyAct commandAct readAct frontReadAct readLockAct
+  named (Write a value) = target-named writing
+  named (Digest a) = target-named digesting
+  named (Transition target high low) = target-named moving
+  named (Read a) = λ e. absurd (idle (Read a) refl (search (programs-either, refuses, ends) depth 9) e)
+  named (FrontRead a) = λ e. absurd (idle (FrontRead a) refl (search (programs-either, refuses, ends) depth 9) e)
+  named (ReadLock number) = λ e. absurd (idle (ReadLock number) refl (search (programs-either, refuses, ends) depth 9) e)
+  named PowerUp = λ e. absurd (up-idle e)
+
+  -- ---- a locked partition
+
+  denied : (b : Bool) {x : Act} → x ≡ refuse Denied → (if b then refuse Denied else x) ≡ refuse Denied
+  denied b {x} e = if-both (λ (y : Act). y ≡ refuse Denied) b (refuse Denied) x (λ t. refl) (λ t. e)
+
+  says-denied : (x : Command) → Right map m → obey prims map x m ≡ act prims map x m → readyAct prims map m x ≡ refuse Denied → Says 0x05 0 (answerTo prims map x m)
+  unfolding act performed perform
+  says-denied x r e d = rw (step-obeys prims map x m r, answerTo, e, d) (refl, refl)
+
+  says-locked : Right map m → (a value : ℕ) → isReady (m .session .phase) ≡ true → sensedLocked (m .session) (numberAt map a) ≡ true
+      → Says 0x05 0 (answerTo prims map (Write a value) m) × Says 0x05 0 (answerTo prims map (Digest a) m)
+  unfolding obey readyAct commandAct writeAct digestAct
+  says-locked right a value r s =
+      let awake = ap not r in (
+        says-denied (Write a value) right refl (if-false _ _ awake ∙ denied _ (denied _ (denied _ (if-true _ _ s)))),
+        says-denied (Digest a) right refl (if-false _ _ awake ∙ denied _ (denied _ (denied _ (if-true _ _ s)))),
+      )
+
+-- ---- in a list
+
+pub refused-named : (prims : Primitives) (map : Map) (m : Machine) (l : List Command) (x : Command)
+    → let m₁ = after prims map l m in
+    codeOf (answerTo prims map x m₁) ≡ 0x04 → Named prims map m₁ x (valueOf (answerTo prims map x m₁))
+refused-named prims map m l x = named prims map (after prims map l m) x
+
+pub locked-denied : (prims : Primitives) (map : Map) (m : Machine) → Right map m → (l : List Command) (a value : ℕ)
+    → let m₁ = after prims map l m in
+    isReady (m₁ .session .phase) ≡ true → sensedLocked (m₁ .session) (numberAt map a) ≡ true
+    → Says 0x05 0 (answerTo prims map (Write a value) m₁) × Says 0x05 0 (answerTo prims map (Digest a) m₁)
+locked-denied prims map m r l = says-locked prims map (after prims map l m) (after-right prims map l m r)
