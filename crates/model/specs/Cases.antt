@@ -1,4 +1,4 @@
--- The 14 cases of document 01 and those of requests Two and Three in one table, over Map 1, for any keys, digest constants, cipher and digest.
+-- The 14 cases of document 01 and those of requests Two, Three and Five in one table, over Map 1, for any keys, digest constants, cipher and digest.
 use Prim.Native.Nat.{ℕ, _+_, _-_, _/_}
 use mathlib.Core.Path.{_≡_}
 use mathlib.Core.List.{List, [], _∷_, _++_, map}
@@ -32,7 +32,7 @@ spent = replicate 404 0 ++ replicate 24 3 ++ replicate 20 0
 abbrev pub case : List Command → List (ℕ × ℕ) → Case
 case commands expected = record { cells = blank; commands = commands; expected = expected; left = none }
 
--- The cases of document 01, case 7 as request Two has it, case 4 as request Three has it; the hashed RAW token of the cases is 7.
+-- The cases of document 01, case 7 as request Two has it, case 4 as requests Three and Five have it; the hashed RAW token of the cases is 7.
 abbrev pub paper : List Case
 paper =
     -- 1. Blank power-up: 0, value 0.
@@ -41,7 +41,7 @@ paper =
     ∷ case (PowerUp ∷ Read 0x327 ∷ Read 0x328 ∷ Read 0x37F ∷ Read 0x380 ∷ []) ((0x00, 0) ∷ (0x00, 0) ∷ (0x05, 0) ∷ (0x05, 0) ∷ (0x05, 0) ∷ [])
     -- 3. Write at 3 acts at 0.
     ∷ case (PowerUp ∷ Write 3 0x55 ∷ Read 0 ∷ []) ((0x00, 0) ∷ (0x00, 0) ∷ (0x00, 0x55) ∷ [])
-    -- 4. At 0: 0x0F, then 0xF0 gives 4; then 0xFF "also gives 4".
+    -- 4. At 0: 0x0F, then 0xF0 gives 4; then 0xFF "also gives 4". The word named is word 0.
     ∷ case (PowerUp ∷ Write 0 0x0F ∷ Write 0 0xF0 ∷ Write 0 0xFF ∷ []) ((0x00, 0) ∷ (0x00, 0) ∷ (0x04, 0) ∷ (0x04, 0) ∷ [])
     -- 5. Write at 0x248: 5.
     ∷ case (PowerUp ∷ Write 0x248 1 ∷ []) ((0x00, 0) ∷ (0x05, 0) ∷ [])
@@ -106,7 +106,7 @@ module _ (s : ℕ) where
         expected = (0x00, 0) ∷ (0x00, 0) ∷ (0x00, number) ∷ (0x00, number) ∷ (0x00, number) ∷ (0x00, number) ∷ (0x00, 0) ∷ [];
         left = none;
       }
-      -- One half is not written after the other, nor both (request Three).
+      -- One half is not written after the other, nor both (request Three); the word named is the first of the digest (request Five).
       ∷ case (PowerUp ∷ Write (s + 0xF8) 1 ∷ Write (s + 0xFC) 0x100000000 ∷ Write (s + 0xF8) 0x100000001 ∷ []) ((0x00, 0) ∷ (0x00, 0) ∷ (0x04, (s + 0xF8) / 2) ∷ (0x04, (s + 0xF8) / 2) ∷ [])
       -- A digest whose low half is zero locks like any other.
       ∷ case (PowerUp ∷ Write (s + 0xF8) 0x100000000 ∷ PowerUp ∷ Write (s + 0xF7) 1 ∷ Write (s + 0xF8) 0x100000001 ∷ [])
@@ -130,15 +130,37 @@ module _ (s : ℕ) where
         expected = (0x00, 0) ∷ (0x00, 0) ∷ (0x04, s / 2) ∷ (0x04, s / 2) ∷ (0x04, s / 2) ∷ (0x00, 0) ∷ (0x04, s / 2) ∷ [];
         left = some (holding (s / 2) (0x0F ∷ []));
       }
-      -- Its other word is blank, and does not take a value either; the next granule does.
+      -- The first word is blank, and does not take a value either; the second is named (request Five). The next granule takes one.
       ∷ case (PowerUp ∷ Write s 0x10000 ∷ Write s 0x10001 ∷ Write (s + 4) 1 ∷ []) ((0x00, 0) ∷ (0x00, 0) ∷ (0x04, s / 2 + 1) ∷ (0x00, 0) ∷ [])
       -- A zero in a blank granule answers 0 and changes nothing, so that a value can follow.
       ∷ record { cells = blank; commands = PowerUp ∷ Write s 0 ∷ Write s 0 ∷ []; expected = (0x00, 0) ∷ (0x00, 0) ∷ (0x00, 0) ∷ []; left = some blank }
       ∷ case (PowerUp ∷ Write s 0 ∷ Write s 5 ∷ Read s ∷ []) ((0x00, 0) ∷ (0x00, 0) ∷ (0x00, 0) ∷ (0x00, 5) ∷ [])
       ∷ []
 
+-- Request Five, which word, in the granule of 8 bytes at s.
+module _ (s : ℕ) where
+  -- with these words stored there, writes are refused at the i-th, counted over the whole array, and no cell changes
+  abbrev pub names : List ℕ → ℕ → Case
+  names ws i = record {
+    cells = holding (s / 2) ws;
+    commands = PowerUp ∷ Write s number ∷ Write (s + 7) 0 ∷ [];
+    expected = (0x00, 0) ∷ (0x04, s / 2 + i) ∷ (0x04, s / 2 + i) ∷ [];
+    left = some (holding (s / 2) ws);
+  }
+
+  abbrev pub whichWord : List Case
+  whichWord = names (5 ∷ 0 ∷ 0 ∷ 7 ∷ []) 0 ∷ names (0 ∷ 5 ∷ 0 ∷ 7 ∷ []) 1 ∷ names (0 ∷ 0 ∷ 5 ∷ 7 ∷ []) 2 ∷ names (0 ∷ 0 ∷ 0 ∷ 7 ∷ []) 3 ∷ []
+
+-- Request Five: "A locked partition still answers 5 with value 0 first", here OWNER_SW_CFG.
+abbrev pub lockedFirst : Case
+lockedFirst =
+    case (PowerUp ∷ Write 0x100 0x10000 ∷ Write 0x1F8 1 ∷ Write 0x100 1 ∷ PowerUp ∷ Write 0x100 1 ∷ Write 0x1FC 1 ∷ [])
+    ((0x00, 0) ∷ (0x00, 0) ∷ (0x00, 0) ∷ (0x04, 0x81) ∷ (0x00, 0) ∷ (0x05, 0) ∷ (0x05, 0) ∷ [])
+
 unfoldable pub table : ℕ → List Case
-table digest = paper ++ bothSides 0x000 ++ bothSides 0x100 ++ (hardware digest ∷ []) ++ secondBurn 0x000 ++ secondBurn 0x200
+table digest =
+    paper ++ bothSides 0x000 ++ bothSides 0x100 ++ (hardware digest ∷ []) ++ secondBurn 0x000 ++ secondBurn 0x200
+    ++ whichWord 0x250 ++ whichWord 0x318 ++ (lockedFirst ∷ [])
 
 module _ (prims : Primitives) (keys : ℕ → ℕ) where
   -- any keys and digest constants; each C and A is 1, each D and B 3; the hashed RAW token is 7
