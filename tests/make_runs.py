@@ -194,7 +194,7 @@ for name, start in (("creator", 0x000), ("owner", 0x100)):
             UP + write(start + a, NUMBER) + reads + UP + reads + write(start, 1) + write(start + 0xF8, 2**64 - 1),
             lines((7, 0, 0), (2, 0, 0), *shown, (7, 0, 0), *shown, (2, 5, 0), (2, 5, 0)))
     run("%s_digest_halves" % name, "one half of a digest is not written after the other", UP + write(start + 0xF8, 1) + write(start + 0xFC, 1 << 32) + read(start + 0xFC) + UP,
-        lines((7, 0, 0), (2, 0, 0), (2, 4, 0), (1, 0, 1), (7, 0, 0)))
+        lines((7, 0, 0), (2, 0, 0), (2, 4, (start + 0xF8) // 2), (1, 0, 1), (7, 0, 0)))
     run("%s_digest_high_half" % name, "a digest whose low half is zero locks like any other",
         UP + write(start + 0xFC, 1 << 32) + UP + write(start + 0xF7, 1) + write(start + 0xF8, (1 << 32) + 1) + read(start + 0xF8),
         lines((7, 0, 0), (2, 0, 0), (7, 0, 0), (2, 5, 0), (2, 5, 0), (1, 0, 1 << 32)))
@@ -206,23 +206,50 @@ TRIED = (0x0F, 0xFF, 0xF0, 0, 2**64 - 1)
 for name, start in (("creator", 0x000), ("last_of_owner", 0x1F4), ("device_id", 0x200)):
     run("%s_burnt_once" % name, "0x%03X takes a value once: the same again, one that clears no bit, one that does and zero answer 4, and still do after a power-up" % start,
         UP + write(start, 0x0F) + b"".join(write(start, v) for v in TRIED) + read(start) + UP + b"".join(write(start, v) for v in TRIED) + read(start) + write(start ^ 4, 0xFF),
-        lines((7, 0, 0), (2, 0, 0), *[(2, 4, 0)] * 5, (1, 0, 0x0F), (7, 0, 0), *[(2, 4, 0)] * 5, (1, 0, 0x0F), (2, 0, 0)))
+        lines((7, 0, 0), (2, 0, 0), *[(2, 4, start // 2)] * 5, (1, 0, 0x0F), (7, 0, 0), *[(2, 4, start // 2)] * 5, (1, 0, 0x0F), (2, 0, 0)))
 run("device_code_stands", "a second device code that clears no bit of the first answers 4, and the first is what is read and, after a power-up, front-read",
     UP + write(0x200, 0xC0DE0001) + write(0x200, 0xC0DE0003) + read(0x200) + UP + front(0x200) + write(0x200, 0xC0DE0003) + front(0x200),
-    lines((7, 0, 0), (2, 0, 0), (2, 4, 0), (1, 0, 0xC0DE0001), (7, 0, 0), (3, 0, 0xC0DE0001), (2, 4, 0), (3, 0, 0xC0DE0001)))
+    lines((7, 0, 0), (2, 0, 0), (2, 4, 0x100), (1, 0, 0xC0DE0001), (7, 0, 0), (3, 0, 0xC0DE0001), (2, 4, 0x100), (3, 0, 0xC0DE0001)))
 run("other_word_of_the_granule", "a granule with one word burnt takes none for its blank word, of 4 bytes and of 8; the next granule does",
     UP + write(0, 1 << 16) + write(0, (1 << 16) + 1) + write(4, 1) + write(0xF8, 1 << 48) + write(0xF8, (1 << 48) + 1) + read(0) + read(0xF8),
-    lines((7, 0, 0), (2, 0, 0), (2, 4, 0), (2, 0, 0), (2, 0, 0), (2, 4, 0), (1, 0, 1 << 16), (1, 0, 1 << 48)))
+    lines((7, 0, 0), (2, 0, 0), (2, 4, 1), (2, 0, 0), (2, 0, 0), (2, 4, 0x7F), (1, 0, 1 << 16), (1, 0, 1 << 48)))
 run("zero_in_a_blank_granule", "a zero in a blank granule answers 0 and changes nothing: a value can follow, and then no zero; a digest of zero locks nothing",
     UP + write(0x200, 0) * 2 + write(0x200, 5) + write(0x200, 0) + read(0x200) + write(0xF8, 0) + UP + write(0, 1) + write(0xF8, 1) + write(0xF8, 0),
-    lines((7, 0, 0), (2, 0, 0), (2, 0, 0), (2, 0, 0), (2, 4, 0), (1, 0, 5), (2, 0, 0), (7, 0, 0), (2, 0, 0), (2, 0, 0), (2, 4, 0)))
+    lines((7, 0, 0), (2, 0, 0), (2, 0, 0), (2, 0, 0), (2, 4, 0x100), (1, 0, 5), (2, 0, 0), (7, 0, 0), (2, 0, 0), (2, 0, 0), (2, 4, 0x7C)))
 run("zero_in_a_secret_granule", "a zero in a secret granule is stored scrambled and burns; the value whose stored form is zero, which a blank block reads, does not",
     UP + write(0x250, 0) + write(0x250, 0) + read(0x250) + read(0x258) + write(0x258, BLANK_READS) * 2 + write(0x258, 7) + write(0x258, BLANK_READS) + read(0x258),
-    lines((7, 0, 0), (2, 0, 0), (2, 4, 0), (1, 0, 0), (1, 0, BLANK_READS), (2, 0, 0), (2, 0, 0), (2, 0, 0), (2, 4, 0), (1, 0, 7)))
+    lines((7, 0, 0), (2, 0, 0), (2, 4, 0x128), (1, 0, 0), (1, 0, BLANK_READS), (2, 0, 0), (2, 0, 0), (2, 0, 0), (2, 4, 0x12C), (1, 0, 7)))
 run("digests_again", "each digest command again answers 4, though it computes the same, and the digest stays",
     UP + b"".join(digest(a) * 2 + read(d) for a, d in ((0x200, 0x248), (0x250, 0x270), (0x278, 0x2C8), (0x2D0, 0x320))) + UP)
 run("counter_words_again", "LIFE_CYCLE words keep the old rule: a stroke sets bits in words that are not blank, and so does a move",
     UP + move(2) + UP + move(0) + UP, lines((7, 0, 257), (6, 0, 0), (7, 0, 514), (6, 0x21, 0), (7, 0, 770)), life(1, state(1)))
+
+# ---- which word
+HELD = ([1, 0, 0, 0], [0, 2, 0, 0x8000], [0, 0, 0x4000, 1], [0, 0, 0, 0xFFFF])
+
+
+def with_words(values, at, held):
+    return values[:at] + held + values[at + len(held) :]
+
+
+for i, held in enumerate(HELD):
+    image = BLANK
+    for start in (0x250, 0x278, 0x318):
+        image = with_words(image, start // 2, held)
+    run("word_%d_of_a_secret_granule" % i, "a secret granule whose lowest word that is not blank is word %d of it, in three partitions: a write answers 4 with that word's index over the whole array" % i,
+        UP + b"".join(write(a, 0) + write(a + 7, 2**64 - 1) for a in (0x250, 0x278, 0x318)),
+        lines((7, 0, 0), *[(2, 4, a // 2 + i) for a in (0x250, 0x278, 0x318) for _ in range(2)]), image)
+run("word_of_a_small_granule", "in a granule of 4 bytes the first or the second word is named, at the first granule and at the last of each partition",
+    UP + b"".join(write(a, 1 << 16 * (a // 4 % 2)) + write(a, 1) + write(a + 3, 0) for a in (0, 4, 0xF4, 0x100, 0x1F4, 0x200, 0x244)),
+    lines((7, 0, 0), *[line for a in (0, 4, 0xF4, 0x100, 0x1F4, 0x200, 0x244) for line in ((2, 0, 0), (2, 4, a // 2 + a // 4 % 2), (2, 4, a // 2 + a // 4 % 2))]))
+run("word_of_a_digest", "the words of a software digest: the lowest that is not blank is named, wherever in it the write is",
+    UP + write(0xF8, 1 << 32) + b"".join(write(a, 1) for a in (0xF8, 0xFB, 0xFC, 0xFF)) + write(0x1FC, (1 << 48) + (1 << 16)) + write(0x1F8, 0),
+    lines((7, 0, 0), (2, 0, 0), *[(2, 4, 0x7E)] * 4, (2, 0, 0), (2, 4, 0xFD)))
+run("locked_names_no_word", "a locked partition answers 5 with value 0 first: the same write named a word before the power-up",
+    UP + write(0x100, 1 << 16) + write(0x1F8, 1) + write(0x100, 1) + write(0x1F8, 1) + UP + write(0x100, 1) + write(0x1F8, 1) + write(0x000, 1),
+    lines((7, 0, 0), (2, 0, 0), (2, 0, 0), (2, 4, 0x81), (2, 4, 0xFC), (7, 0, 0), (2, 5, 0), (2, 5, 0), (2, 0, 0)))
+run("locked_secret_names_no_word", "a secret partition names a word until a digest command and a power-up have locked it, and no word after that",
+    UP + write(0x250, TEST_UNLOCK % 2**64) + write(0x250, 0) + digest(0x250) + digest(0x250) + UP + write(0x250, 0) + write(0x258, 0) + digest(0x250))
 
 # ---- what the paper leaves to its general rules
 run("target_equals_state", "a target equal to the state is not in the table: the stroke is spent, then 0x21", UP + move(1, RAW_TOKEN) + UP + move(1, RAW_TOKEN) + UP,

@@ -42,7 +42,6 @@ pub struct Answer {
 }
 
 /// Refusals without a value.
-pub const NOT_BLANK: Answer = Answer::refusal(0x04);
 pub const NOT_ALLOWED: Answer = Answer::refusal(0x05);
 pub const NOT_READY: Answer = Answer::refusal(0x07);
 pub const WRONG_LENGTH: Answer = Answer::refusal(0x10);
@@ -55,6 +54,14 @@ impl Answer {
 
     pub const fn refusal(code: u8) -> Answer {
         Answer { code, value: 0 }
+    }
+
+    /// Programming is refused at a word, counted over the whole array.
+    pub const fn not_blank(word: usize) -> Answer {
+        Answer {
+            code: 0x04,
+            value: word as u64,
+        }
     }
 }
 
@@ -156,7 +163,7 @@ impl Chip {
             &words::words_of(value)[..place.len()],
         ) {
             Ok(()) => Answer::done(0),
-            Err(_) => NOT_BLANK,
+            Err(word) => Answer::not_blank(word),
         }
     }
 
@@ -180,7 +187,7 @@ impl Chip {
         let place = MAP[number].digest_words().start as u64;
         match words::burn(&mut self.cells, place, &words::words_of(digest)) {
             Ok(()) => Answer::done(digest),
-            Err(_) => NOT_BLANK,
+            Err(word) => Answer::not_blank(word),
         }
     }
 

@@ -75,14 +75,19 @@ fn digest_edges(constants: &[u16]) -> Vec<Run> {
 }
 
 /// Every granule of data with its first, second, third or fourth word not
-/// blank, or the last for one that has fewer: no value is taken there.
+/// blank, or the last for one that has fewer: no value is taken there, and
+/// this word is named, alone or with all words of the granule above it.
 fn held_words(constants: &[u16]) -> Vec<Run> {
     let mut runs = Vec::new();
-    for held in 0..4 {
+    for (held, above) in (0..4).flat_map(|held| [(held, false), (held, true)]) {
         let (mut cells, mut commands) = (blank(), vec![PowerUp]);
         for address in granules() {
-            let words = MAP[find(address).unwrap()].granule_words(address);
-            cells[words.start + held.min(words.len() - 1)] = 1 << held;
+            let word = held_word(address, held);
+            cells[word] = 1 << held;
+            if above {
+                let end = MAP[find(address).unwrap()].granule_words(address).end;
+                cells[word + 1..end].fill(0x8001);
+            }
             for data in [u64::MAX, 1 << (16 * held + held), 0] {
                 commands.push(Write(address, data));
             }
@@ -91,6 +96,12 @@ fn held_words(constants: &[u16]) -> Vec<Run> {
         runs.push(Run::of(&commands, &cells, constants));
     }
     runs
+}
+
+/// The word of a granule with a number, or its last.
+fn held_word(address: u32, number: usize) -> usize {
+    let words = MAP[find(address).unwrap()].granule_words(address);
+    words.start + number.min(words.len() - 1)
 }
 
 /// The first address of each granule of data that direct access may write.
@@ -252,12 +263,20 @@ mod tests {
         let runs = held_words(&constants);
         assert_eq!(
             (runs.len(), granules().count()),
-            (4, 62 + 62 + 18 + 4 + 10 + 10)
+            (8, 62 + 62 + 18 + 4 + 10 + 10)
         );
-        for run in runs {
+        for (run, number) in runs.iter().zip([0, 0, 1, 1, 2, 2, 3, 3]) {
             let printed = run.printed();
-            assert_eq!(printed.matches("\n02 04 0000000000000000").count(), 3 * 166);
-            assert_eq!(printed.matches("\n01 00").count(), 166);
+            let (named, read): (Vec<&str>, Vec<&str>) = printed
+                .lines()
+                .filter(|line| line.starts_with("02") || line.starts_with("01 00"))
+                .partition(|line| line.starts_with("02"));
+            let expected = granules().flat_map(|address| {
+                let line = format!("02 04 {:016x}", held_word(address, number));
+                [line.clone(), line.clone(), line]
+            });
+            assert_eq!(named, expected.collect::<Vec<String>>());
+            assert_eq!(read.len(), 166);
         }
     }
 
@@ -266,11 +285,7 @@ mod tests {
         let constants = chips::constants(&mut Random::new(45));
         for run in second_digests(&constants) {
             let printed = run.printed();
-            assert_eq!(
-                printed.matches("\n04 04 0000000000000000").count(),
-                2,
-                "{printed}"
-            );
+            assert_eq!(printed.matches("\n04 04 ").count(), 2, "{printed}");
             assert!(
                 printed.starts_with("07 00 0000000000000000\n04 00"),
                 "{printed}"

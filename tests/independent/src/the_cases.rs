@@ -1,5 +1,5 @@
-//! The 14 cases of the paper, those of requests Two and Three, and rules about
-//! the record beside them.
+//! The 14 cases of the paper, those of requests Two, Three and Five, and rules
+//! about the record beside them.
 
 use crate::constants::{example, raw_token};
 use crate::life_cycle::{counter_words, state_words};
@@ -93,8 +93,9 @@ fn a_granule_is_burnt_once() {
         let mut chip = ready();
         expect(&mut chip, &[(Write(address, 0x1_0001), 0, 0)]);
         let cells = chip.cells.clone();
+        let word = cells.iter().position(|&word| word != 0).unwrap() as u64;
         for data in [0x1_0001, 0xffff_ffff, u64::MAX, 0, 1 << 40] {
-            expect(&mut chip, &[(Write(address, data), 4, 0)]);
+            expect(&mut chip, &[(Write(address, data), 4, word)]);
         }
         assert_eq!(chip.cells, cells, "{address:x}");
     }
@@ -106,7 +107,7 @@ fn a_zero_burns_nothing_where_it_is_stored_plain() {
     let steps = [(Write(0x200, 0), 0, 0), (Write(0x200, 0), 0, 0)];
     expect(&mut chip, &steps);
     assert_eq!(chip.cells, vec![0; CELLS]);
-    let steps = [(Write(0x200, 9), 0, 0), (Write(0x200, 0), 4, 0)];
+    let steps = [(Write(0x200, 9), 0, 0), (Write(0x200, 0), 4, 0x100)];
     expect(&mut chip, &steps);
 }
 
@@ -115,7 +116,7 @@ fn a_zero_burns_a_secret_granule() {
     let mut chip = ready();
     expect(
         &mut chip,
-        &[(Write(0x250, 0), 0, 0), (Write(0x250, 0), 4, 0)],
+        &[(Write(0x250, 0), 0, 0), (Write(0x250, 0), 4, 0x128)],
     );
     assert_ne!(chip.cells, vec![0; CELLS]);
     // Unless its stored form is zero, as that of what a blank block reads.
@@ -132,13 +133,77 @@ fn a_digest_command_is_done_once() {
     let digest = chip.computed_digest(2);
     let steps = [
         (Digest(0x200), 0, digest),
-        (Digest(0x200), 4, 0),
+        (Digest(0x200), 4, 0x124),
         (Read(0x248), 0, digest),
         (Write(0x200, 1), 0, 0),
-        (Digest(0x200), 4, 0),
+        (Digest(0x200), 4, 0x124),
         (PowerUp, 6, 2),
     ];
     expect(&mut chip, &steps);
+}
+
+/// Each set of words of an 8-byte granule that may hold something, first in
+/// data, then in a software digest and under a digest command.
+#[test]
+fn the_lowest_word_that_is_not_blank_is_named() {
+    for (first, command) in [
+        (0x128, Write(0x257, 7)),
+        (0x7c, Write(0x0fc, 0)),
+        (0x124, Digest(0x200)),
+    ] {
+        for held in 1..16_u32 {
+            let mut chip = ready();
+            for word in (0..4).filter(|word| held >> word & 1 == 1) {
+                chip.cells[first + word] = 0x8000;
+            }
+            let before = chip.clone();
+            let lowest = first as u64 + u64::from(held.trailing_zeros());
+            expect(&mut chip, &[(command, 4, lowest)]);
+            assert_eq!(chip, before);
+        }
+    }
+}
+
+#[test]
+fn a_locked_partition_names_no_word() {
+    let steps = [
+        (Write(0x100, 0x1_0000), 0, 0),
+        (Write(0x1f8, 1), 0, 0),
+        (Write(0x100, 1), 4, 0x81),
+        (PowerUp, 0, 0),
+        (Write(0x100, 1), 5, 0),
+        (Write(0x1fc, 1), 5, 0),
+    ];
+    expect(&mut ready(), &steps);
+    for (number, start) in [(2, 0x200), (3, 0x250), (4, 0x278), (5, 0x2d0)] {
+        let mut chip = ready();
+        chip.cells[start as usize / 2 + 1] = 9;
+        chip.session.digests[number] = 1;
+        expect(&mut chip, &[(Write(start, 1), 5, 0), (Digest(start), 5, 0)]);
+    }
+}
+
+/// A word is named where its own bit would be cleared, not where it is merely
+/// not blank; the counter's come before the state's.
+#[test]
+fn the_lowest_life_cycle_word_that_loses_a_bit_is_named() {
+    for (damaged, named) in [
+        (&[0, 5, 30][..], 0),
+        (&[5, 23], 5),
+        (&[23, 24], 23),
+        (&[24, 43], 24),
+        (&[31, 32], 31),
+        (&[43], 43),
+    ] {
+        let mut chip = powered(at(1, 1));
+        for word in damaged {
+            // A bit that none of the constants has.
+            chip.cells[COUNTERS_AT + word] |= 0x4000;
+        }
+        let word = (COUNTERS_AT + named) as u64;
+        expect(&mut chip, &[(Transition(2, 0), 4, word)]);
+        assert_eq!(chip.session.phase, Phase::Dead(4));
+    }
 }
 
 #[test]
@@ -226,7 +291,7 @@ fn no_half_of_a_digest_is_written_after_the_other() {
         let (low, high) = (start + 0xf8, start + 0xfc);
         let halves = [
             (Write(low, 1), 0, 0),
-            (Write(high, 1 << 32), 4, 0),
+            (Write(high, 1 << 32), 4, u64::from(low) / 2),
             (Read(high), 0, 1),
         ];
         expect(&mut ready(), &halves);
@@ -420,13 +485,13 @@ fn a_cleared_bit_in_a_transition_is_death() {
     let mut chip = ready();
     chip.cells[COUNTERS_AT] = 0x4000;
     let cells = chip.cells.clone();
-    expect(&mut chip, &[(Transition(20, 0), 4, 0)]);
+    expect(&mut chip, &[(Transition(20, 0), 4, COUNTERS_AT as u64)]);
     assert_eq!(chip.cells, cells);
     assert_eq!(chip.session.phase, Phase::Dead(4));
 
     let mut chip = ready();
     chip.cells[CELLS - 1] = 0x4000;
-    expect(&mut chip, &[(Transition(20, 0), 4, 0)]);
+    expect(&mut chip, &[(Transition(20, 0), 4, CELLS as u64 - 1)]);
     assert_eq!(
         chip.cells[COUNTERS_AT..COUNTERS_AT + 24],
         counter_words(&example(), 1)

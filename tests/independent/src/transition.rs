@@ -3,7 +3,7 @@
 use crate::constants::{self, COUNTERS};
 use crate::life_cycle::{self, Token, MOST_STROKES, SCRAP};
 use crate::map::{LIFE_CYCLE, MAP, SECRET0, SECRET2};
-use crate::model::{Answer, Chip, Phase, NOT_BLANK, NOT_READY};
+use crate::model::{Answer, Chip, Phase, NOT_READY};
 use crate::words;
 
 /// Partition of each stored token and its byte address.
@@ -26,8 +26,8 @@ impl Chip {
             return WRONG_TARGET;
         }
         let answer = self.attempt(target, token);
-        self.session.phase = match answer {
-            NOT_BLANK => Phase::Dead(0x04),
+        self.session.phase = match answer.code {
+            0x04 => Phase::Dead(0x04),
             _ => Phase::Inert,
         };
         answer
@@ -39,8 +39,8 @@ impl Chip {
         }
         let counters_at = MAP[LIFE_CYCLE].data().start;
         let counters = life_cycle::counter_words(&self.constants, self.session.count + 1);
-        if !self.program(counters_at, &counters) {
-            return NOT_BLANK;
+        if let Some(refusal) = self.program(counters_at, &counters) {
+            return refusal;
         }
         let Some(asked) = life_cycle::token_between(self.session.state, target) else {
             return NOT_IN_TABLE;
@@ -49,16 +49,15 @@ impl Chip {
             return refusal;
         }
         let states = life_cycle::state_words(&self.constants, target);
-        match self.program(counters_at + COUNTERS, &states) {
-            true => Answer::done(0),
-            false => NOT_BLANK,
-        }
+        let refusal = self.program(counters_at + COUNTERS, &states);
+        refusal.unwrap_or(Answer::done(0))
     }
 
-    /// Programs life cycle words from a word on. False when a bit would be
-    /// cleared.
-    fn program(&mut self, at: usize, value: &[u16]) -> bool {
-        words::program(&mut self.cells, at as u64, value).is_ok()
+    /// Programs life cycle words from a word on. A refusal names the lowest
+    /// with a bit that would be cleared.
+    fn program(&mut self, at: usize, value: &[u16]) -> Option<Answer> {
+        let programmed = words::program(&mut self.cells, at as u64, value);
+        programmed.err().map(Answer::not_blank)
     }
 
     fn judge_token(&self, asked: Token, given: u128) -> Option<Answer> {
