@@ -1,19 +1,23 @@
 -- Which word a 4 names. The idea: a 4 comes of programming a target alone, and programming names the lowest word that refuses; a locked partition is refused before
 -- its words are asked.
 use mathlib.Core.Path.{_≡_, refl, sym, ap, _∙_}
-use mathlib.Core.Bool.{Bool, true, false, not}
-use mathlib.Core.List.{List, []}
-use Prim.Native.Nat.{ℕ}
+use mathlib.Core.Bool.{Bool, true, not}
+use mathlib.Core.List.{List, [], _++_}
+use Prim.Native.Nat.{ℕ, suc, _+_, _*_, _^_}
 use native.Mathlib.Omega.{arith}
-use lib.Dec.{ltb}
+use lib.ListN.{length}
 use borrow.Author.Tests.{ltb-true, eqb-false}
 use Rattle.basics.specs.Choice.{if_then_else_}
 use Rattle.basics.proofs.Choice.{if-both, if-true, if-false}
 use Rattle.words.specs.declared.Rule.{Rule}
 use Rattle.words.specs.declared.Rule.the-variants.{BlankOnly}
+use Rattle.words.specs.Words.{wordsOf}
 use Rattle.words.specs.Programming.{programAnswer}
 use Rattle.words.proofs.Programming.{refused-not-done, refused-lowest}
 use Rattle.partitions.specs.Map.{Map, numberAt}
+use Rattle.life_cycle.specs.Words.{counterWords, stateWords}
+use Rattle.life_cycle.specs.Transitions.{transition}
+use Rattle.life_cycle.proofs.Encoding.{counter-length}
 use Rattle.model.specs.declared.Answer.{Answer}
 use Rattle.model.specs.declared.Answer.the-variants.{Denied}
 use Rattle.model.specs.declared.Command.{Command}
@@ -22,21 +26,56 @@ use Rattle.model.specs.Answers.{codeOf, valueOf}
 use Rattle.model.specs.Session.{isReady, sensedLocked}
 use Rattle.model.specs.Lent.{Machine, Primitives}
 use Rattle.model.specs.Acts.{Act, refuse, perform}
-use Rattle.model.specs.Commands.{writeAct, readAct, frontReadAct, digestAct, readLockAct, commandAct, readyAct}
+use Rattle.model.specs.Commands.{lifeCycleRule, counterAt, stateAt, writeAct, readAct, frontReadAct, digestAct, readLockAct, moveAct, transitionAct, commandAct, readyAct}
 use Rattle.model.specs.PowerUp.{waking}
 use Rattle.model.specs.Step.{performed, act, powerUp, obey, after, answerTo}
 use Rattle.model.specs.Terms.{Right}
 use Rattle.model.specs.Beyond.{Says, Targets, writing, digesting, moving, Named}
-use Rattle.model.proofs.Programs.{Programs, refuses, ends, programs-either, Tells, tells-nothing, perform-programs}
+use Rattle.model.proofs.Programs.{Programs, refuses, ends, burns, compares, programs-if, programs-either, last-piece, once-programs, Tells, tells-nothing, perform-programs}
 use Rattle.model.proofs.Steps.{answer-both, step-obeys, after-right}
-use Rattle.model.proofs.Targets.{target-programs}
+use Rattle.model.proofs.Targets.{write-once, digest-once}
+use Rattle.model.proofs.Transitions.{Walk, entry-all}
 use Rattle.model.proofs.Waking.{woken-answer}
 
 module _ (prims : Primitives) (map : Map) (m : Machine) where
   abbrev cells : List ℕ
   cells = m .lent .cells
 
+  abbrev k : List ℕ
+  k = m .lent .constants
+
+  abbrev counter : List ℕ
+  counter = counterWords k (suc (m .session .count))
+
+  -- ---- a transition programs the counter words of one stroke more, then the state words, which adjoin them
+
+  adjoins : stateAt map ≡ counterAt map + length counter
+  unfolding stateAt
+  adjoins = omega (arith, counter-length k (suc (m .session .count)))
+
+  state-programs : (target : ℕ) → Walk prims map m target (Programs lifeCycleRule (stateAt map) (stateWords k target))
+  unfolding moveAct
+  state-programs target = record {
+    moved = last-piece;
+    forbidden = refuses refl;
+    open? = refuses refl;
+    differs = refuses refl;
+    compared = λ test same other. compares;
+  }
+
+  transition-programs : (target high low : ℕ) → Programs lifeCycleRule (counterAt map) (counter ++ stateWords k target) (readyAct prims map m (Transition target high low))
+  unfolding readyAct commandAct transitionAct
+  transition-programs target high low =
+      programs-if (λ t. refuses refl) λ t. programs-if (λ t. refuses refl) λ t. programs-if (λ t. refuses refl) λ t. programs-if (λ t. refuses refl) λ t.
+      burns refl adjoins (entry-all prims map m target _ (state-programs target) (transition (m .session .state) target) (high * 2 ^ 64 + low))
+
   -- ---- a command with a target
+
+  target-programs : {x : Command} {rule : Rule} {at : ℕ} {words : List ℕ} → Targets prims map m x rule at words → Programs rule at words (readyAct prims map m x)
+  target-programs (writing {a} {value}) = once-programs (λ r at ws v w. (w .by-rule, w .place, w .holds)) (write-once prims map m a value)
+  target-programs (digesting {a}) =
+      once-programs (λ r at ws v w. (w .by-rule, w .place, w .holds ∙ ap (wordsOf 4) (w .answer))) (digest-once prims map m a)
+  target-programs (moving {target} {high} {low}) = transition-programs target high low
 
   act-tells : {rule : Rule} {at : ℕ} {words : List ℕ} (x : Command) → obey prims map x m ≡ act prims map x m → Programs rule at words (readyAct prims map m x)
       → Tells rule cells at words (answerTo prims map x m)
@@ -51,7 +90,7 @@ module _ (prims : Primitives) (map : Map) (m : Machine) where
   target-acts moving = refl
 
   pub target-tells : {x : Command} {rule : Rule} {at : ℕ} {words : List ℕ} → Targets prims map m x rule at words → Tells rule cells at words (answerTo prims map x m)
-  target-tells {x} target = act-tells x (target-acts target) (target-programs prims map m target)
+  target-tells {x} target = act-tells x (target-acts target) (target-programs target)
 
   target-named : {x : Command} {rule : Rule} {at : ℕ} {words : List ℕ} → Targets prims map m x rule at words → codeOf (answerTo prims map x m) ≡ 0x04
       → Named prims map m x (valueOf (answerTo prims map x m))

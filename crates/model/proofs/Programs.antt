@@ -1,5 +1,5 @@
 -- What an act programs in all. The idea: it programs its words in pieces that adjoin, the lowest first, so that it answers as if they were programmed at once.
-use mathlib.Core.Path.{_≡_, refl, sym, ap, _∙_}
+use mathlib.Core.Path.{_≡_, refl, sym, _∙_}
 use mathlib.Core.Bool.{Bool, true, false}
 use mathlib.Core.List.{List, [], _++_, append-nil}
 use Prim.Native.Nat.{ℕ, _+_}
@@ -14,7 +14,7 @@ use Rattle.words.specs.declared.Programmed.the-variants as programmed
 use Rattle.words.specs.Programming.{programAnswer, programCells}
 use Rattle.words.proofs.Programming.{answer-same, append-stop, append-next, program-elsewhere}
 use Rattle.model.specs.declared.Answer.{Answer}
-use Rattle.model.specs.declared.Answer.the-variants.{Done, NotBlank}
+use Rattle.model.specs.declared.Answer.the-variants.{Done}
 use Rattle.model.specs.Answers.{codeOf, valueOf}
 use Rattle.model.specs.Acts.{Turn, Act, say, program, compare, Performed, noting, perform}
 use Rattle.model.proofs.Acts.{after-both, Once}

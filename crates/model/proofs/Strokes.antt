@@ -38,7 +38,7 @@ use Rattle.model.specs.declared.Command.the-variants.{Read, Write, Front
 use Rattle.model.specs.Answers.{codeOf}
 use Rattle.model.specs.Session.{isReady}
 use Rattle.model.specs.Lent.{Lent, Machine, Primitives}
-use Rattle.model.specs.Acts.{Turn, stay, lock, halt, die, turned, Act, say, program, compare, Performed, afterProgram, noting, perform}
+use Rattle.model.specs.Acts.{Turn, stay, lock, halt, die, turned, Act, say, program, Performed, afterProgram, noting, perform}
 use Rattle.model.specs.Commands.{lifeCycleRule, counterAt, stateAt, moveAct, entryAct, transitionAct, commandAct, readyAct}
 use Rattle.model.specs.PowerUp.{Waking, waking, wakingOf, lifeCycleWaking, verdictOf, lifeCycleIn, wokenSession}
 use Rattle.model.specs.Step.{Step, unchanged, performed, act, powerUp, obey, step, after, machineAfter, answerTo}

@@ -1,9 +1,8 @@
--- What a command programs. The idea: a write and a digest command are a row of refusals that ends in one programming of a granule; a transition spends a stroke,
--- then moves the state words, which adjoin the counter's.
+-- What direct access programs. The idea: a write and a digest command are a row of refusals that ends in one programming of a granule.
 use mathlib.Core.Path.{_≡_, refl, sym, ap, _∙_}
 use mathlib.Core.Bool.{true, false, _&&_}
-use mathlib.Core.List.{List, _++_}
-use Prim.Native.Nat.{ℕ, suc, _+_, _*_, _/_, _^_, _<_}
+use mathlib.Core.List.{List}
+use Prim.Native.Nat.{ℕ, _*_, _/_, _<_}
 use native.Mathlib.Omega.{arith}
 use lib.ListN.{length}
 use borrow.Author.Tests.{leb-false, eqb-true, not-false}
@@ -17,18 +16,13 @@ use Rattle.partitions.specs.Fitness.{fit}
 use Rattle.partitions.proofs.KindRights.{hardware-direct}
 use Rattle.partitions.proofs.Map.{inside, partition-at, end-within}
 use Rattle.partitions.proofs.Granules.{digest-word, digest-granule}
-use Rattle.life_cycle.specs.Words.{counterWords, stateWords}
-use Rattle.life_cycle.specs.Transitions.{transition}
-use Rattle.life_cycle.proofs.Encoding.{counter-length}
 use Rattle.model.specs.declared.Command.{Command}
-use Rattle.model.specs.declared.Command.the-variants.{Write, Digest, Transition}
+use Rattle.model.specs.declared.Command.the-variants.{Write, Digest}
 use Rattle.model.specs.Lent.{Machine, Primitives}
-use Rattle.model.specs.Commands.{directRule, lifeCycleRule, computedDigest, counterAt, stateAt, writeAct, digestAct, moveAct, transitionAct, commandAct, readyAct}
+use Rattle.model.specs.Commands.{directRule, computedDigest, writeAct, digestAct, commandAct, readyAct}
 use Rattle.model.specs.Terms.{storedWords}
-use Rattle.model.specs.Beyond.{Targets, writing, digesting, moving}
-use Rattle.model.proofs.Acts.{Once, once-if, once-map}
-use Rattle.model.proofs.Programs.{Programs, refuses, burns, compares, programs-if, last-piece, once-programs}
-use Rattle.model.proofs.Transitions.{Walk, entry-all}
+use Rattle.model.specs.Beyond.{Targets, writing, digesting}
+use Rattle.model.proofs.Acts.{Once, refuses, burns, once-if, once-map}
 
 module _ (prims : Primitives) (map : Map) (m : Machine) (a : ℕ) where
   -- the words that a write programs, by which rule, from which cell on, and the value that it answers
@@ -54,14 +48,14 @@ module _ (prims : Primitives) (map : Map) (m : Machine) (a : ℕ) where
   pub write-once : (given : ℕ) → Once (Written given) (readyAct prims map m (Write a given))
   unfolding readyAct commandAct writeAct
   write-once given =
-      once-if (λ t. Once.refuses refl) λ r. once-if (λ t. Once.refuses refl) λ l. once-if (λ t. Once.refuses refl) λ d. once-if (λ t. Once.refuses refl) λ h. once-if (λ t. Once.refuses refl) λ z.
-      Once.burns (record { below = leb-false _ _ l; direct = not-false _ d; not-digest = h; by-rule = refl; place = refl; holds = refl; answer = refl })
+      once-if (λ t. refuses refl) λ r. once-if (λ t. refuses refl) λ l. once-if (λ t. refuses refl) λ d. once-if (λ t. refuses refl) λ h. once-if (λ t. refuses refl) λ z.
+      burns (record { below = leb-false _ _ l; direct = not-false _ d; not-digest = h; by-rule = refl; place = refl; holds = refl; answer = refl })
 
   pub digest-once : Once Computed (readyAct prims map m (Digest a))
   unfolding readyAct commandAct digestAct
   digest-once =
-      once-if (λ t. Once.refuses refl) λ r. once-if (λ t. Once.refuses refl) λ l. once-if (λ t. Once.refuses refl) λ h. once-if (λ t. Once.refuses refl) λ s. once-if (λ t. Once.refuses refl) λ z.
-      Once.burns (record { below = leb-false _ _ l; hard = not-false _ h; first = eqb-true _ _ (not-false _ s); by-rule = refl; place = refl; holds = refl; answer = refl })
+      once-if (λ t. refuses refl) λ r. once-if (λ t. refuses refl) λ l. once-if (λ t. refuses refl) λ h. once-if (λ t. refuses refl) λ s. once-if (λ t. refuses refl) λ z.
+      burns (record { below = leb-false _ _ l; hard = not-false _ h; first = eqb-true _ _ (not-false _ s); by-rule = refl; place = refl; holds = refl; answer = refl })
 
 -- What either programs, where it programs: its target, which is the granule of an address, by the rule of direct access.
 pub record Struck (map : Map) (at n : ℕ) (rule : Rule) (from : ℕ) (words : List ℕ) (value : ℕ) : Type 0 where
@@ -112,40 +106,3 @@ module _ (prims : Primitives) (map : Map) (F : fit map ≡ true) (m : Machine) w
   pub target-once : {x : Command} {at : ℕ} {words : List ℕ} → Targets prims map m x BlankOnly at words → Once (Struck map at (length words)) (readyAct prims map m x)
   target-once (writing {a} {value}) = once-map (λ rule at words value. written-struck) (write-once prims map m a value)
   target-once (digesting {a}) = once-map (λ rule at words value. computed-struck) (digest-once prims map m a)
-
-module _ (prims : Primitives) (map : Map) (m : Machine) where
-  -- ---- a transition
-
-  abbrev k : List ℕ
-  k = m .lent .constants
-
-  abbrev counter : List ℕ
-  counter = counterWords k (suc (m .session .count))
-
-  adjoins : stateAt map ≡ counterAt map + length counter
-  unfolding stateAt
-  adjoins = omega (arith, counter-length k (suc (m .session .count)))
-
-  state-programs : (target : ℕ) → Walk prims map m target (Programs lifeCycleRule (stateAt map) (stateWords k target))
-  unfolding moveAct
-  state-programs target = record {
-    moved = last-piece;
-    forbidden = refuses refl;
-    open? = refuses refl;
-    differs = refuses refl;
-    compared = λ test same other. compares;
-  }
-
-  transition-programs : (target high low : ℕ) → Programs lifeCycleRule (counterAt map) (counter ++ stateWords k target) (readyAct prims map m (Transition target high low))
-  unfolding readyAct commandAct transitionAct
-  transition-programs target high low =
-      programs-if (λ t. refuses refl) λ t. programs-if (λ t. refuses refl) λ t. programs-if (λ t. refuses refl) λ t. programs-if (λ t. refuses refl) λ t.
-      burns refl adjoins (entry-all prims map m target _ (state-programs target) (transition (m .session .state) target) (high * 2 ^ 64 + low))
-
-  -- ---- every target
-
-  pub target-programs : {x : Command} {rule : Rule} {at : ℕ} {words : List ℕ} → Targets prims map m x rule at words → Programs rule at words (readyAct prims map m x)
-  target-programs (writing {a} {value}) = once-programs (λ r at ws v w. (w .by-rule, w .place, w .holds)) (write-once prims map m a value)
-  target-programs (digesting {a}) =
-      once-programs (λ r at ws v w. (w .by-rule, w .place, w .holds ∙ ap (wordsOf 4) (w .answer))) (digest-once prims map m a)
-  target-programs (moving {target} {high} {low}) = transition-programs target high low

@@ -11,7 +11,7 @@ pub enum Rule {
     BlankOnly,
 }
 
-// What programming answers: done, or the index of the lowest cell that refused.
+// What programming answers: done, or the lowest cell that refused, counted over the whole array.
 pub enum Programmed {
     Done,
     Refused(usize),
