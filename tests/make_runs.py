@@ -250,6 +250,8 @@ run("locked_names_no_word", "a locked partition answers 5 with value 0 first: th
     lines((7, 0, 0), (2, 0, 0), (2, 0, 0), (2, 4, 0x81), (2, 4, 0xFC), (7, 0, 0), (2, 5, 0), (2, 5, 0), (2, 0, 0)))
 run("locked_secret_names_no_word", "a secret partition names a word until a digest command and a power-up have locked it, and no word after that",
     UP + write(0x250, TEST_UNLOCK % 2**64) + write(0x250, 0) + digest(0x250) + digest(0x250) + UP + write(0x250, 0) + write(0x258, 0) + digest(0x250))
+run("read_locked_names_a_word", "a read lock stops no write, and so a 4 names a word that can't be read",
+    UP + write(0x100, 1 << 16) + lock(1) + read(0x100) + write(0x100, 1) + write(0x104, 1), lines((7, 0, 0), (2, 0, 0), (5, 0, 0), (1, 5, 0), (2, 4, 0x81), (2, 0, 0)))
 
 # ---- what the paper leaves to its general rules
 run("target_equals_state", "a target equal to the state is not in the table: the stroke is spent, then 0x21", UP + move(1, RAW_TOKEN) + UP + move(1, RAW_TOKEN) + UP,
