@@ -91,19 +91,17 @@ pub once-map : {P Q : Rule → ℕ → List ℕ → ℕ → Type 0} {x : Act}
 once-map f (refuses e) = refuses e
 once-map f (burns {rule = rule} {at = at} {words = words} {value = value} h) = burns (f rule at words value h)
 
--- performed, it leaves every cell with such a code or because a cell refuses, or the words are programmed whole
+-- performed, it leaves every cell, or the words are programmed whole
 pub data Burnt (P : Rule → ℕ → List ℕ → ℕ → Type 0) (cells : List ℕ) (r : Performed) : Type 0 where
-  left : r .cells ≡ cells → ltb 4 (codeOf (r .answer)) ≡ true → Burnt P cells r
-  unburnt : {rule : Rule} {at : ℕ} {words : List ℕ} {value cell : ℕ} → P rule at words value → programAnswer rule cells at words ≡ programmed.Refused cell
-      → r .cells ≡ cells → r .answer ≡ NotBlank cell → Burnt P cells r
+  left : r .cells ≡ cells → Burnt P cells r
   burnt : {rule : Rule} {at : ℕ} {words : List ℕ} {value : ℕ} → P rule at words value → programAnswer rule cells at words ≡ programmed.Done → r .cells ≡ programCells rule cells at words
       → r .answer ≡ Done value → Burnt P cells r
 
 pub perform-once : {P : Rule → ℕ → List ℕ → ℕ → Type 0} {x : Act} → Once P x → (copy cells : List ℕ) → Burnt P cells (perform x copy cells)
 unfolding perform
-perform-once (refuses e) copy cells = left refl e
+perform-once (refuses e) copy cells = left refl
 perform-once {P} (burns {rule = rule} {at = at} {words = words} {value = value} h) copy cells =
-    after-both (Burnt P cells) (programAnswer rule cells at words) _ _ (λ e. burnt {value = value} h e refl refl) (λ cell e. unburnt {value = value} h e refl refl)
+    after-both (Burnt P cells) (programAnswer rule cells at words) _ _ (λ e. burnt {value = value} h e refl refl) (λ cell e. left refl)
 
 -- ---- the answers that an act may give, with the turns that go with them
 

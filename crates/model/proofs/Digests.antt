@@ -30,7 +30,7 @@ use Rattle.model.specs.Commands.{storedDigest, scrambled}
 use Rattle.model.specs.Step.{Step, unchanged, performed, act, powerUp, after, machineAfter, answerTo}
 use Rattle.model.specs.Terms.{Right, Digested}
 use Rattle.model.specs.Beyond.{Puts, writes, computes, Source, found, put}
-use Rattle.model.proofs.Acts.{Burnt, left, unburnt, burnt, perform-once}
+use Rattle.model.proofs.Acts.{Burnt, left, burnt, perform-once}
 use Rattle.model.proofs.Frame.{Aim, by-aim, aimless-word}
 use Rattle.model.proofs.Steps.{outcome, step-all, cells-length, step-right}
 use Rattle.model.proofs.Targets.{Written, Computed, write-once, digest-once}
@@ -99,8 +99,7 @@ module _ (prims : Primitives) (map : Map) (F : fit map ≡ true) (n : ℕ) (D : 
   write-changes m r a value = go (perform-once (write-once prims map m a value) (m .lent .copy) (m .lent .cells))
     where
       go : Burnt (Written prims map m a value) (m .lent .cells) (outcome prims map (Write a value) m) → Changes (Write a value) m
-      go (left e _) = kept (rw e)
-      go (unburnt _ _ e _) = kept (rw e)
+      go (left e) = kept (rw e)
       go (burnt w k f e) =
           by-cases (eqb (numberAt map a) n && inDigest p a)
           (λ t.
@@ -123,8 +122,7 @@ module _ (prims : Primitives) (map : Map) (F : fit map ≡ true) (n : ℕ) (D : 
   digest-changes m r a = go (perform-once (digest-once prims map m a) (m .lent .copy) (m .lent .cells))
     where
       go : Burnt (Computed prims map m a) (m .lent .cells) (outcome prims map (Digest a) m) → Changes (Digest a) m
-      go (left e _) = kept (rw e)
-      go (unburnt _ _ e _) = kept (rw e)
+      go (left e) = kept (rw e)
       go (burnt w k f e) =
           by-cases (eqb (numberAt map a) n)
           (λ t.

@@ -22,7 +22,7 @@ use Rattle.model.specs.Lent.{Machine, Primitives}
 use Rattle.model.specs.Commands.{granule}
 use Rattle.model.specs.Step.{Step, unchanged, performed, act, powerUp, after, machineAfter, answerTo}
 use Rattle.model.specs.Beyond.{Targets, writing, digesting}
-use Rattle.model.proofs.Acts.{Burnt, left, unburnt, burnt, perform-once}
+use Rattle.model.proofs.Acts.{Burnt, left, burnt, perform-once}
 use Rattle.model.proofs.Targets.{Struck, target-once}
 use Rattle.model.proofs.Frame.{by-aim, aimless-granule}
 use Rattle.model.proofs.Steps.{after-append, outcome, step-all}
@@ -46,8 +46,7 @@ module _ (prims : Primitives) (map : Map) (F : fit map ≡ true) where
     word-stays j h = go result
       where
         go : Result → getD (outcome prims map x m .cells) j 0 ≡ getD cells j 0
-        go (left e _) = rw e
-        go (unburnt _ _ e _) = rw e
+        go (left e) = rw e
         go (burnt w k f _) = rw f (program-elsewhere _ cells _ _ j (λ lo hi. h (done-blank _ cells _ j (rw (w .by-rule) at k) lo hi)))
 
     -- and so does each word of a granule that is not blank: were one of them programmed, the granule would be the target
@@ -65,8 +64,7 @@ module _ (prims : Primitives) (map : Map) (F : fit map ≡ true) where
             (omega (arith, one .first, one .count, w .first, w .count, w .place, w .size)))
 
         go : Result → getD (outcome prims map x m .cells) j 0 ≡ getD cells j 0
-        go (left e _) = rw e
-        go (unburnt _ _ e _) = rw e
+        go (left e) = rw e
         go (burnt w k f _) = rw f (program-elsewhere _ cells _ _ j (λ lo′ hi′. h (blank w k lo′ hi′)))
 
   -- ---- in a list

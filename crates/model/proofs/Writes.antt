@@ -33,7 +33,7 @@ use Rattle.model.specs.Commands.{directRule, granule, storedDigest, scra
 use Rattle.model.specs.Step.{Step, unchanged, performed, act, powerUp, step, after, machineAfter, answerTo}
 use Rattle.model.specs.Terms.{Right, Cipher, Digested, spares, storedWords, usedValue, Lasts, Spared, Allowed, TakesEffect}
 use Rattle.model.specs.Demand3.{Ready}
-use Rattle.model.proofs.Acts.{after-done, Burnt, left, unburnt, burnt, perform-once, not-done}
+use Rattle.model.proofs.Acts.{after-done, Burnt, left, burnt, perform-once, not-done}
 use Rattle.model.proofs.Targets.{Written, write-once}
 use Rattle.model.proofs.Frame.{Sealed, by-aim, aimless-granule}
 use Rattle.model.proofs.Steps.{outcome, step-all, cells-length, step-right, after-right, step-constants, after-constants}
@@ -138,8 +138,7 @@ module _ (prims : Primitives) (C : Cipher prims) (map : Map) (F : fit map ≡ tr
       where
         go : Burnt (Written prims map m b value) (m .lent .cells) (outcome prims map (Write b value) m)
             → getD (outcome prims map (Write b value) m .cells) j 0 ≡ getD (m .lent .cells) j 0
-        go (left e _) = rw e
-        go (unburnt _ _ e _) = rw e
+        go (left e) = rw e
         go (burnt w k f e) =
             rw (f, w .place, w .holds) (program-elsewhere _ (m .lent .cells) _ _ j
             (λ lo′ hi′. sp (shared-word map F (w .below) below lo′ (rw length-words at hi′) lo hi .first) (ap codeOf e)))

@@ -60,7 +60,7 @@ module _ (prims : Primitives) (map : Map) where
         → Targets m (Transition target high low) lifeCycleRule (counterAt map)
         (counterWords (m .lent .constants) (suc (m .session .count)) ++ stateWords (m .lent .constants) target)
 
-  -- the word i is the lowest of those that the command is to program that refuses
+  -- of the words that the command is to program, the word i is the lowest that refuses
   pub record Named (m : Machine) (x : Command) (i : ℕ) : Type 0 where
     pub rule : Rule
     pub at : ℕ
