@@ -121,7 +121,7 @@ unfolding perform noting
 perform-gives (Gives.says h) copy cells = h
 perform-gives {T} (Gives.programs {rule = rule} {at = at} {words = words} refused next) copy cells =
     after-both (λ (r : Performed). T (r .answer) (r .turn)) (programAnswer rule cells at words) _ _
-    (λ e. perform-gives next copy (programCells rule cells at words)) (λ cell e. refused cell)
+    (λ e. perform-gives next copy (programCells rule cells at words)) (λ cell e. refused _)
 perform-gives {T} (Gives.compares {test = test} same other) copy cells =
     if-both (λ (r : Performed). T (r .answer) (r .turn)) _ _ _ (λ e. perform-gives same copy cells) (λ e. perform-gives other copy cells)
 
