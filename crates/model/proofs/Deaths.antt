@@ -99,4 +99,4 @@ module _ (prims : Primitives) (map : Map) (m : Machine) where
 
     pub deaths-told : (x : Command) → Told (step prims map x m)
     unfolding unchanged powerUp waking
-    deaths-told x = step-all prims map Told x m (λ answer h. absurd (h refl)) (λ h. woken-told _ _ (m .lent)) (act-told x)
+    deaths-told x = step-all prims map Told x m (λ answer e h. absurd (h refl)) (λ h. woken-told _ _ (m .lent)) (act-told x)

@@ -92,7 +92,7 @@ module _ (prims : Primitives) (map : Map) (F : fit map ≡ true) (n : ℕ) (D : 
   unfolding unchanged
   step-held x m h =
       step-all prims map (λ (s : Step). isReady (s .result .machine .session .phase) ≡ true → SamePartition map n c₁ (s .result .machine .lent .copy)) x m
-      (λ answer. h .held) (up-latched m (h .locked .burnt) (h .same) .held) (act-held x m h)
+      (λ answer e. h .held) (up-latched m (h .locked .burnt) (h .same) .held) (act-held x m h)
 
   after-latched : (l : List Command) (m : Machine) → Latched m → Latched (after prims map l m)
   unfolding after

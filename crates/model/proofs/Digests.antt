@@ -143,7 +143,7 @@ module _ (prims : Primitives) (map : Map) (F : fit map ≡ true) (n : ℕ) (D : 
   step-changes : (x : Command) (m : Machine) → Right map m → Change x (m .lent .cells) (machineAfter prims map x m .lent .cells) (answerTo prims map x m)
   unfolding unchanged powerUp act performed
   step-changes x m r =
-      step-all prims map (λ (s : Step). Change x (m .lent .cells) (s .result .machine .lent .cells) (s .result .answer)) x m (λ answer. kept refl) (kept refl)
+      step-all prims map (λ (s : Step). Change x (m .lent .cells) (s .result .machine .lent .cells) (s .result .answer)) x m (λ answer e. kept refl) (kept refl)
       (command-changes m r x)
 
   pub whole-digests : (l : List Command) (m : Machine) → Right map m → Source prims map m l n (storedDigest p (after prims map l m .lent .cells))

@@ -119,7 +119,7 @@ module _ (prims : Primitives) (map : Map) (F : fit map ≡ true) (n : ℕ) (D : 
   unfolding unchanged
   step-locked x m k =
       step-all prims map (λ (s : Step). Locked (s .result .machine) × SamePartition map n (m .lent .cells) (s .result .machine .lent .cells)) x m
-      (λ a. (k, same-refl)) (up-locked m (k .burnt), up-same m) (act-locked x m k, act-same x m k)
+      (λ a e. (k, same-refl)) (up-locked m (k .burnt), up-same m) (act-locked x m k, act-same x m k)
 
   pub after-locked : (l : List Command) (m : Machine) → Locked m
       → Locked (after prims map l m) × SamePartition map n (m .lent .cells) (after prims map l m .lent .cells)

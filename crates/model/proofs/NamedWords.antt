@@ -5,10 +5,11 @@ use mathlib.Core.Bool.{Bool, true, not}
 use mathlib.Core.List.{List, [], _++_}
 use Prim.Native.Nat.{ℕ, suc, _+_, _*_, _^_}
 use native.Mathlib.Omega.{arith}
+use lib.Dec.{eqb, ltb}
 use lib.ListN.{length}
-use borrow.Author.Tests.{ltb-true, eqb-false}
+use borrow.Author.Tests.{eqb-true, eqb-false}
 use Rattle.basics.specs.Choice.{if_then_else_}
-use Rattle.basics.proofs.Choice.{if-both, if-true, if-false}
+use Rattle.basics.proofs.Choice.{by-cases, true-not-false, if-both, if-true, if-false}
 use Rattle.words.specs.declared.Rule.{Rule}
 use Rattle.words.specs.declared.Rule.the-variants.{BlankOnly}
 use Rattle.words.specs.Words.{wordsOf}
@@ -28,14 +29,19 @@ use Rattle.model.specs.Lent.{Machine, Primitives}
 use Rattle.model.specs.Acts.{Act, refuse, perform}
 use Rattle.model.specs.Commands.{lifeCycleRule, counterAt, stateAt, writeAct, readAct, frontReadAct, digestAct, readLockAct, moveAct, transitionAct, commandAct, readyAct}
 use Rattle.model.specs.PowerUp.{waking}
-use Rattle.model.specs.Step.{performed, act, powerUp, obey, after, answerTo}
+use Rattle.model.specs.Step.{Step, unchanged, performed, act, powerUp, obey, after, answerTo}
 use Rattle.model.specs.Terms.{Right}
+use Rattle.model.specs.Refusals.{judged}
 use Rattle.model.specs.Beyond.{Says, Targets, writing, digesting, moving, Named}
 use Rattle.model.proofs.Programs.{Programs, refuses, ends, burns, compares, programs-if, programs-either, last-piece, once-programs, Tells, tells-nothing, perform-programs}
-use Rattle.model.proofs.Steps.{answer-both, step-obeys, after-right}
+use Rattle.model.proofs.Steps.{step-both, step-obeys, after-right}
 use Rattle.model.proofs.Targets.{write-once, digest-once}
 use Rattle.model.proofs.Transitions.{Walk, entry-all}
 use Rattle.model.proofs.Waking.{woken-answer}
+
+-- the codes 0x10 and 0x12 are above 4
+judged-above : (code : ℕ) → judged code ≡ true → ltb 4 code ≡ true
+judged-above code e = by-cases (eqb code 0x10) (λ t. rw (eqb-true code 0x10 t)) (λ t. rw (eqb-true code 0x12 (rw t at e)))
 
 module _ (prims : Primitives) (map : Map) (m : Machine) where
   abbrev cells : List ℕ
@@ -79,9 +85,10 @@ module _ (prims : Primitives) (map : Map) (m : Machine) where
 
   act-tells : {rule : Rule} {at : ℕ} {words : List ℕ} (x : Command) → obey prims map x m ≡ act prims map x m → Programs rule at words (readyAct prims map m x)
       → Tells rule cells at words (answerTo prims map x m)
-  unfolding act performed
+  unfolding unchanged act performed
   act-tells {rule} {at} {words} x e p =
-      answer-both prims map (Tells rule cells at words) x m (tells-nothing rule cells at words) (rw e (perform-programs p (m .lent .copy) cells))
+      step-both prims map (λ (s : Step). Tells rule cells at words (s .result .answer)) x m
+      (λ answer j. tells-nothing rule cells at words answer (judged-above (codeOf answer) j)) (rw e (perform-programs p (m .lent .copy) cells))
 
   target-acts : {x : Command} {rule : Rule} {at : ℕ} {words : List ℕ} → Targets prims map m x rule at words → obey prims map x m ≡ act prims map x m
   unfolding obey
@@ -104,9 +111,9 @@ module _ (prims : Primitives) (map : Map) (m : Machine) where
   idle x e p f = refused-not-done (sym (act-tells x e p .1 f))
 
   up-idle : codeOf (answerTo prims map PowerUp m) ≡ 0x04 → ⊥
-  unfolding obey powerUp waking
+  unfolding unchanged obey powerUp waking
   up-idle =
-      answer-both prims map (λ (answer : Answer). codeOf answer ≡ 0x04 → ⊥) PowerUp m (λ answer e f. omega (arith, ltb-true 4 (codeOf answer) e))
+      step-both prims map (λ (s : Step). codeOf (s .result .answer) ≡ 0x04 → ⊥) PowerUp m (λ answer j f. true-not-false j (rw f))
       (woken-answer (λ (answer : Answer). codeOf answer ≡ 0x04 → ⊥) _ _ (λ value. eqb-false _ _ refl) (λ number. eqb-false _ _ refl) (λ value. eqb-false _ _ refl))
 
   named : (x : Command) → codeOf (answerTo prims map x m) ≡ 0x04 → Named prims map m x (valueOf (answerTo prims map x m))

@@ -18,7 +18,7 @@ module _ (prims : Primitives) (map : Map) where
   step-unsensed : (x : Command) (m : Machine) → quiet x → Unsensed m (machineAfter prims map x m)
   unfolding unchanged act performed
   step-unsensed x m q =
-      step-both prims map (λ (s : Step). Unsensed m (s .result .machine)) x m (λ answer. (refl, refl))
+      step-both prims map (λ (s : Step). Unsensed m (s .result .machine)) x m (λ answer e. (refl, refl))
       (rw (obeys-act prims map x m (λ e. subst quiet e q)) (refl, turned-sensed _ (m .session)))
 
   pub after-unsensed : (m : Machine) (l : List Command) → Quiet l → Unsensed m (after prims map l m)

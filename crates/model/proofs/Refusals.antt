@@ -1,6 +1,6 @@
 -- A refusal changes nothing. The idea: a command but transition and power-up says its only answer other than 0 with nothing done, or programs once
 -- and refuses that; a transition refuses early with nothing done, or turns the phase with each later answer.
-use mathlib.Core.Path.{_≡_, refl, sym, subst}
+use mathlib.Core.Path.{_≡_, refl, subst}
 use mathlib.Core.Bool.{Bool, true, false}
 use mathlib.Core.List.{List}
 use mathlib.Core.Option.{Option}
@@ -29,6 +29,7 @@ use Rattle.model.specs.Terms.{quiet}
 use Rattle.model.specs.Refusals.{judged, early, phaseAfter}
 use Rattle.model.proofs.Acts.{after-both, Gives, programs, perform-gives}
 use Rattle.model.proofs.Transitions.{Ends, entry-gives}
+use Rattle.model.proofs.Steps.{step-both, obeys-act}
 use Rattle.model.proofs.Waking.{woken-answer}
 
 -- what an act came to that left the cells and turned nothing
@@ -77,21 +78,11 @@ module _ (prims : Primitives) (map : Map) (m : Machine) where
       let left : (r .cells ≡ m .lent .cells) × (r .turn ≡ stay) = perform-clean (command-clean x q) (m .lent .copy) (m .lent .cells) h in
       same-machine prims map m r (left .0) (left .1)
 
-  quiet-obeys : (x : Command) → quiet x → obey prims map x m ≡ act prims map x m
-  unfolding obey
-  quiet-obeys (Read a) q = refl
-  quiet-obeys (Write a value) q = refl
-  quiet-obeys (FrontRead a) q = refl
-  quiet-obeys (Digest a) q = refl
-  quiet-obeys (ReadLock number) q = refl
-  quiet-obeys (Transition target high low) q = absurd q
-  quiet-obeys PowerUp q = absurd q
-
   pub commands-refuse : (x : Command) → quiet x → (codeOf (answerTo prims map x m) ≡ 0x00 → ⊥) → machineAfter prims map x m ≡ m
-  unfolding step unchanged obey
+  unfolding unchanged
   commands-refuse x q =
-      let Q : Step → Type 0 = λ s. (codeOf (s .result .answer) ≡ 0x00 → ⊥) → s .result .machine ≡ m in
-      if-both Q _ _ _ (λ e h. refl) λ e. if-both Q _ _ _ (λ e h. refl) λ e. subst Q (sym (quiet-obeys x q)) (act-clean x q)
+      step-both prims map (λ (s : Step). (codeOf (s .result .answer) ≡ 0x00 → ⊥) → s .result .machine ≡ m) x m (λ answer e h. refl)
+      (rw (obeys-act prims map x m (λ e. subst quiet e q)) (act-clean x q))
 
 -- ---- power-up
 
@@ -102,13 +93,18 @@ module _ (prims : Primitives) (map : Map) where
   pub power-ups-refuse : (m : Machine)
       → (machineAfter prims map PowerUp m .lent .cells ≡ m .lent .cells)
       × (judged (codeOf (answerTo prims map PowerUp m)) ≡ true → machineAfter prims map PowerUp m ≡ m)
-  unfolding step unchanged obey powerUp waking
+  unfolding unchanged obey powerUp waking
   power-ups-refuse m =
-      let Q : Step → Type 0 = λ s. (s .result .machine .lent .cells ≡ m .lent .cells) × (judged (codeOf (s .result .answer)) ≡ true → s .result .machine ≡ m) in
-      if-both Q _ _ _ (λ e. (refl, λ j. refl)) λ e. if-both Q _ _ _ (λ e. (refl, λ j. refl))
-      λ e. (refl, λ j. absurd (true-not-false j (woken-code (verdictOf prims map (m .lent)) (lifeCycleIn map (m .lent)))))
+      step-both prims map
+      (λ (s : Step). (s .result .machine .lent .cells ≡ m .lent .cells) × (judged (codeOf (s .result .answer)) ≡ true → s .result .machine ≡ m)) PowerUp m
+      (λ answer e. (refl, λ j. refl))
+      (refl, λ j. absurd (true-not-false j (woken-code (verdictOf prims map (m .lent)) (lifeCycleIn map (m .lent)))))
 
 -- ---- transition
+
+judged-early : (code : ℕ) → judged code ≡ true → early code ≡ true
+unfolding early
+judged-early code e = rw e
 
 -- an answer after the stroke count was asked, with its turn
 abbrev Later : Answer → Turn → Type 0
@@ -170,10 +166,10 @@ module _ (prims : Primitives) (map : Map) (m : Machine) where
       × (code ≡ 0x20 → s .result .machine .lent .cells ≡ m .lent .cells))
 
   pub transitions-refuse : (target high low : ℕ) → Transited (step prims map (Transition target high low) m)
-  unfolding step unchanged obey act performed early
+  unfolding unchanged obey act performed
   transitions-refuse target high low =
-      let r : Performed = perform (readyAct prims map m (Transition target high low)) (m .lent .copy) (m .lent .cells) in
+      let x = Transition target high low in
+      let r : Performed = perform (readyAct prims map m x) (m .lent .copy) (m .lent .cells) in
       let ended : Ended (m .session) (m .lent .cells) r = perform-transits (transition-transits target high low) (m .session) (m .lent .copy) (m .lent .cells) in
-      if-both Transited _ _ _ (λ e. ((λ j. refl), λ j. absurd (true-not-false refl j)))
-      λ e. if-both Transited _ _ _ (λ e. ((λ j. refl), λ j. absurd (true-not-false refl j)))
-      λ e. ((λ j. same-machine prims map m r (ended .0 j .0) (ended .0 j .1)), λ j. (refl, ended .1 j .0, ended .1 j .1))
+      step-both prims map Transited x m (λ answer e. ((λ j. refl), λ j. absurd (true-not-false (judged-early (codeOf answer) e) j)))
+      ((λ j. same-machine prims map m r (ended .0 j .0) (ended .0 j .1)), λ j. (refl, ended .1 j .0, ended .1 j .1))

@@ -82,7 +82,7 @@ module _ (prims : Primitives) (map : Map) (F : fit map ≡ true) where
   unfolding act performed powerUp unchanged
   no-second-burn m l x at words target j h =
       let m₁ = after prims map l m in
-      step-all prims map (λ (s : Step). getD (s .result .machine .lent .cells) j 0 ≡ getD (m₁ .lent .cells) j 0) x m₁ (λ answer. refl) refl
+      step-all prims map (λ (s : Step). getD (s .result .machine .lent .cells) j 0 ≡ getD (m₁ .lent .cells) j 0) x m₁ (λ answer e. refl) refl
       (word-stays m₁ target j h)
 
   module _ (a : ℕ) (below : a < limit map) (direct : rightsOf (partitionAt map a .kind) .direct ≡ true) where
@@ -106,7 +106,7 @@ module _ (prims : Primitives) (map : Map) (F : fit map ≡ true) where
         → partAt (machineAfter prims map x m .lent .cells) first count ≡ partAt (m .lent .cells) first count
     unfolding act performed powerUp unchanged
     step-held x m h =
-        step-all prims map (λ (s : Step). partAt (s .result .machine .lent .cells) first count ≡ partAt (m .lent .cells) first count) x m (λ answer. refl) refl
+        step-all prims map (λ (s : Step). partAt (s .result .machine .lent .cells) first count ≡ partAt (m .lent .cells) first count) x m (λ answer e. refl) refl
         (part-same _ (m .lent .cells) first count (word-held m h x))
 
     still : (c d : List ℕ) → partAt d first count ≡ partAt c first count → Held c → Held d

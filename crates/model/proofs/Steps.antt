@@ -3,7 +3,7 @@ use mathlib.Core.Path.{_≡_, refl, _∙_}
 use mathlib.Core.Bool.{true, not}
 use mathlib.Core.List.{List, [], _∷_, _++_}
 use Prim.Native.Nat.{ℕ, _/_}
-use lib.Dec.{eqb, ltb}
+use lib.Dec.{eqb}
 use lib.ListN.{length}
 use borrow.Author.Tests.{eqb-true, eq-eqb}
 use Rattle.basics.proofs.Choice.{if-both, if-false, and-three}
@@ -21,8 +21,9 @@ use Rattle.model.specs.Lent.{Lent, Machine, Primitives, rightLengths}
 use Rattle.model.specs.Acts.{Performed, perform}
 use Rattle.model.specs.Commands.{readyAct}
 use Rattle.model.specs.PowerUp.{Waking, fails, wakes, wokenCopy}
-use Rattle.model.specs.Step.{Step, unchanged, performed, act, powerUp, obey, step, after, machineAfter, answerTo}
+use Rattle.model.specs.Step.{Step, unchanged, performed, act, powerUp, obey, step, after, machineAfter}
 use Rattle.model.specs.Terms.{Right}
+use Rattle.model.specs.Refusals.{judged}
 use Rattle.model.proofs.Acts.{perform-kept, perform-length}
 
 module _ (prims : Primitives) (map : Map) where
@@ -60,26 +61,18 @@ module _ (prims : Primitives) (map : Map) where
       → Q (powerUp prims map m) (powerUp prims map n) → Q (act prims map x m) (act prims map x n) → Q (obey prims map x m) (obey prims map x n)
   obey-both Q x m n h f = by-obeying x (λ e. rw e (unfold obey in h)) (λ e. rw (e m, e n) f)
 
-  -- what holds of a refusal and of the command obeyed
-  pub step-both : (Q : Step → Type 0) (x : Command) (m : Machine) → ((answer : Answer) → Q (unchanged answer m)) → Q (obey prims map x m)
-      → Q (step prims map x m)
+  -- what holds where what is lent is refused, with 0x10 or 0x12, and of the command obeyed
+  pub step-both : (Q : Step → Type 0) (x : Command) (m : Machine) → ((answer : Answer) → judged (codeOf answer) ≡ true → Q (unchanged answer m))
+      → Q (obey prims map x m) → Q (step prims map x m)
   unfolding step
   step-both Q x m u h =
-      if-both Q (not (rightLengths map (m .lent))) _ _ (λ e. u WrongLength)
-      (λ e. if-both Q (not (validConstants (m .lent .constants))) _ _ (λ e. u InvalidConstants) (λ e. h))
+      if-both Q (not (rightLengths map (m .lent))) _ _ (λ e. u WrongLength refl)
+      (λ e. if-both Q (not (validConstants (m .lent .constants))) _ _ (λ e. u InvalidConstants refl) (λ e. h))
 
-  -- what holds of a refusal, of a power-up and of an act holds of every command
+  -- what holds there, of a power-up and of an act holds of every command
   pub step-all : (Q : Step → Type 0) (x : Command) (m : Machine)
-      → ((answer : Answer) → Q (unchanged answer m)) → Q (powerUp prims map m) → Q (act prims map x m) → Q (step prims map x m)
+      → ((answer : Answer) → judged (codeOf answer) ≡ true → Q (unchanged answer m)) → Q (powerUp prims map m) → Q (act prims map x m) → Q (step prims map x m)
   step-all Q x m u h f = step-both Q x m u (obey-both (λ s _. Q s) x m m h f)
-
-  -- what holds of every answer with a code above 4 and of the answer of the command obeyed
-  pub answer-both : (Q : Answer → Type 0) (x : Command) (m : Machine) → ((answer : Answer) → ltb 4 (codeOf answer) ≡ true → Q answer)
-      → Q (obey prims map x m .result .answer) → Q (answerTo prims map x m)
-  unfolding step unchanged
-  answer-both Q x m u h =
-      let P : Step → Type 0 = λ s. Q (s .result .answer) in
-      if-both P _ _ _ (λ e. u WrongLength refl) (λ e. if-both P _ _ _ (λ e. u InvalidConstants refl) (λ e. h))
 
   -- with right lengths and valid constants the command is obeyed
   pub judged-obeys : (x : Command) (m : Machine) → rightLengths map (m .lent) ≡ true → validConstants (m .lent .constants) ≡ true
@@ -99,7 +92,7 @@ module _ (prims : Primitives) (map : Map) where
   step-kept : (x : Command) (m : Machine) → Kept (m .lent .cells) (machineAfter prims map x m .lent .cells)
   unfolding act performed powerUp unchanged
   step-kept x m =
-      step-all (λ (s : Step). Kept (m .lent .cells) (s .result .machine .lent .cells)) x m (λ a. kept-refl) kept-refl
+      step-all (λ (s : Step). Kept (m .lent .cells) (s .result .machine .lent .cells)) x m (λ a e. kept-refl) kept-refl
       (perform-kept (readyAct prims map m x) (m .lent .copy) (m .lent .cells))
 
   pub after-kept : (l : List Command) (m : Machine) → Kept (m .lent .cells) (after prims map l m .lent .cells)
@@ -155,7 +148,7 @@ module _ (prims : Primitives) (map : Map) where
 
   pub step-right : (x : Command) (m : Machine) → Right map m → Right map (machineAfter prims map x m)
   unfolding unchanged
-  step-right x m r = step-all (λ (s : Step). Right map (s .result .machine)) x m (λ a. r) (up-right m r) (act-right x m r)
+  step-right x m r = step-all (λ (s : Step). Right map (s .result .machine)) x m (λ a e. r) (up-right m r) (act-right x m r)
 
   pub after-right : (l : List Command) (m : Machine) → Right map m → Right map (after prims map l m)
   unfolding after
@@ -169,7 +162,7 @@ module _ (prims : Primitives) (map : Map) where
 
   pub step-constants : (x : Command) (m : Machine) → machineAfter prims map x m .lent .constants ≡ m .lent .constants
   unfolding act performed powerUp unchanged
-  step-constants x m = step-all (λ (s : Step). s .result .machine .lent .constants ≡ m .lent .constants) x m (λ a. refl) refl refl
+  step-constants x m = step-all (λ (s : Step). s .result .machine .lent .constants ≡ m .lent .constants) x m (λ a e. refl) refl refl
 
   pub after-constants : (l : List Command) (m : Machine) → after prims map l m .lent .constants ≡ m .lent .constants
   unfolding after

@@ -323,7 +323,7 @@ module _ (prims : Primitives) (map : Map) (F : fit map ≡ true) where
 
   step-goes : (x : Command) (m : Machine) → Right map m → Living prims map m → Goes m (step prims map x m)
   step-goes x m r live =
-      step-all prims map (Goes m) x m (λ answer. unchanged-goes answer m live) (same-goes m (powerUp prims map m) (up-life m) (up-living m))
+      step-all prims map (Goes m) x m (λ answer e. unchanged-goes answer m live) (same-goes m (powerUp prims map m) (up-life m) (up-living m))
       (act-goes x m r live)
 
   course-trans : {x y z : LifeCycle} → Course x y → Course y z → Course x z

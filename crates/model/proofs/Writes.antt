@@ -159,7 +159,7 @@ module _ (prims : Primitives) (C : Cipher prims) (map : Map) (F : fit map ≡ tr
     step-stays x m =
         step-all prims map
         (λ (s : Step). spares map a x (s .result .answer) → partAt (s .result .machine .lent .cells) first count ≡ partAt (m .lent .cells) first count) x m
-        (λ answer sp. refl) (λ sp. refl) (λ sp. part-same _ (m .lent .cells) first count (word-stays m x sp))
+        (λ answer e sp. refl) (λ sp. refl) (λ sp. part-same _ (m .lent .cells) first count (word-stays m x sp))
 
     -- while no write to the granule answers 0, its words stay, through power-ups and transitions too
     after-stays : (l : List Command) (m : Machine) → Spared prims map a l m
