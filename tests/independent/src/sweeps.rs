@@ -283,13 +283,18 @@ mod tests {
     #[test]
     fn no_digest_command_is_done_twice() {
         let constants = chips::constants(&mut Random::new(45));
-        for run in second_digests(&constants) {
+        let hardware = &MAP[HW_CFG..LIFE_CYCLE];
+        for (run, partition) in second_digests(&constants).iter().zip(hardware) {
             let printed = run.printed();
-            assert_eq!(printed.matches("\n04 04 ").count(), 2, "{printed}");
             assert!(
                 printed.starts_with("07 00 0000000000000000\n04 00"),
                 "{printed}"
             );
+            let done = printed.lines().nth(1).unwrap();
+            let digest = u64::from_str_radix(&done[6..], 16).unwrap();
+            let word = partition.digest_words().start as u32 + digest.trailing_zeros() / 16;
+            let refused = format!("\n04 04 {word:016x}\n");
+            assert_eq!(printed.matches(&refused).count(), 2, "{printed}");
         }
     }
 
