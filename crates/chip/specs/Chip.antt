@@ -1,8 +1,9 @@
--- The chip that the code is proved against: the model at PRESENT, the digest and Map 1.
+-- The chip that the code is proved against: the model at PRESENT, the digest, the hash of tokens and Map 1.
 use Prim.Native.Nat.{ℕ}
 use mathlib.Core.List.{List}
 use Rattle.present.specs.Present.{encryptBlock, decryptBlock}
 use Rattle.digest.specs.Digest.{digestWords}
+use Rattle.token_hash.specs.TokenHash.{tokenHash}
 use Rattle.partitions.specs.Map1.{map1}
 use Rattle.model.specs.declared.Session.{Session}
 use Rattle.model.specs.declared.Command.{Command}
@@ -11,7 +12,7 @@ use Rattle.model.specs.Lent.{Machine, Primitives}
 use Rattle.model.specs.Step.{Result, step}
 
 abbrev pub primitives : Primitives
-primitives = record { encrypt = encryptBlock; decrypt = decryptBlock; digest = digestWords }
+primitives = record { encrypt = encryptBlock; decrypt = decryptBlock; digest = digestWords; hash = tokenHash }
 
 -- what is lent, with a session record
 abbrev pub machineOf : List ℕ → List ℕ → List ℕ → Session → Machine

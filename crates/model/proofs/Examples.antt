@@ -24,13 +24,14 @@ use Rattle.life_cycle.specs.declared.LifeCycle.the-variants.{Valid}
 use Rattle.model.specs.Commands.{granule, storedDigest}
 use Rattle.model.specs.PowerUp.{lifeCycleIn}
 use Rattle.model.specs.Step.{after, answers, machineAfter, answerTo}
-use Rattle.model.specs.Cases.{blank, number, blankDigest}
+use Rattle.model.specs.Cases.{blank, number, table, Hold, blankDigest}
 use Rattle.model.specs.Terms.{Right, Cipher, Digested, storedWords, Lasts, Spared, usedValue, Allowed, Matched, HiddenWord, Alike}
 use Rattle.model.specs.Demand3.{Demand3, Ready}
 use Rattle.model.specs.Session.{readLocked}
 use Rattle.model.specs.Beyond.{Beyond, Says, writing, digesting, Named, Puts, writes, Source, put, stays, moves}
 use Rattle.model.proofs.Everything.{everything}
 use Rattle.model.proofs.ToyChip.{toyWith, toy, off, ready, tested}
+use Rattle.model.proofs.Cases.{cases}
 use Rattle.model.proofs.Theorems.{refusals, demand3, beyond}
 use Rattle.model.proofs.Strokes.{rising}
 
@@ -233,10 +234,10 @@ stored-whole = refl
 half-put : Puts map1 0 0x100000001 (Write 0x0FC 0x100000000) (Done 0) → ⊥
 half-put (writes n d e) = omega arith
 
--- ---- what the table of cases asks: the digest of a blank HW_CFG is a number of 64 bits
+-- ---- what the table of cases asks: the digest of a blank HW_CFG is a number of 64 bits, the hash of the right token one of 128 bits, and the wrong token's another
 
-blank-digest : blankDigest (toyWith (λ words. number)) (λ i. 0) < 2 ^ 64
-blank-digest = lit< tt
+table-held : let prims = toyWith (λ words. number) in Hold prims (λ i. 0) (table (blankDigest prims (λ i. 0)))
+table-held = cases (toyWith (λ words. number)) (λ i. 0) (lit< tt) (lit< tt) (λ e. absurd (omega arith))
 
 -- ---- two chips: SECRET0 locked on both with digest 1, and one word of its data (at 0x250) different
 
@@ -286,7 +287,7 @@ chips-agree =
 exchanged : List ℕ
 exchanged = set tested 304 9
 
-token-matched : Matched toy map1 (PowerUp ∷ Transition 3 0 0x70 ∷ []) (off tested) (off exchanged)
+token-matched : Matched toy map1 (PowerUp ∷ Transition 3 0 0x71 ∷ []) (off tested) (off exchanged)
 unfolding everything Matched tested exchanged
 token-matched = (tt, (refl, tt), ((refl, tt), tt, tt))
 

@@ -17,11 +17,11 @@ use Rattle.model.proofs.ToyChip.{toyWith, toy, off, ready, tested}
 
 -- ---- a token of a locked partition: TEST_LOCKED0 goes to TEST_UNLOCKED1
 
-token-taken : answers toy map1 (PowerUp ∷ Transition 3 0 0x70 ∷ PowerUp ∷ []) (off tested) ≡ Done 514 ∷ Done 0 ∷ Done 771 ∷ []
+token-taken : answers toy map1 (PowerUp ∷ Transition 3 0 0x71 ∷ PowerUp ∷ []) (off tested) ≡ Done 514 ∷ Done 0 ∷ Done 771 ∷ []
 unfolding everything tested
 token-taken = refl
 
-token-refused : answers toy map1 (PowerUp ∷ Transition 3 0 0x71 ∷ PowerUp ∷ []) (off tested) ≡ Done 514 ∷ TokenDiffers ∷ Done 770 ∷ []
+token-refused : answers toy map1 (PowerUp ∷ Transition 3 0 0x70 ∷ PowerUp ∷ []) (off tested) ≡ Done 514 ∷ TokenDiffers ∷ Done 770 ∷ []
 unfolding everything tested
 token-refused = refl
 

@@ -1,10 +1,12 @@
--- The 14 cases of document 01 and those of requests Two, Three and Five in one table, over Map 1, for any keys, digest constants, cipher and digest.
+-- The 14 cases of document 01, read with the hashing of request Four, and those of requests Two, Three and Five in one table, over Map 1, for any keys,
+-- digest constants, cipher, digest and hash.
 use Prim.Native.Nat.{ℕ, _+_, _-_, _/_}
 use mathlib.Core.Path.{_≡_}
 use mathlib.Core.List.{List, [], _∷_, _++_, map}
 use mathlib.Core.Option.{Option, none, some}
 use lib.ListN.{length, replicate}
 use Rattle.basics.specs.Range.{listed}
+use Rattle.words.specs.Words.{wordsOf}
 use Rattle.partitions.specs.Map1.{map1}
 use Rattle.model.specs.declared.Answer.{Answer}
 use Rattle.model.specs.declared.Command.{Command}
@@ -32,7 +34,8 @@ spent = replicate 404 0 ++ replicate 24 3 ++ replicate 20 0
 abbrev pub case : List Command → List (ℕ × ℕ) → Case
 case commands expected = record { cells = blank; commands = commands; expected = expected; left = none }
 
--- The cases of document 01, case 7 as request Two has it, case 4 as requests Three and Five have it; the hashed RAW token of the cases is 7.
+-- The cases of document 01, case 7 as request Two has it, case 4 as requests Three and Five have it. Tokens are raw: the right RAW_UNLOCK token is 7, a
+-- wrong one is 8.
 abbrev pub paper : List Case
 paper =
     -- 1. Blank power-up: 0, value 0.
@@ -163,9 +166,9 @@ table digest =
     ++ whichWord 0x250 ++ whichWord 0x318 ++ (lockedFirst ∷ [])
 
 module _ (prims : Primitives) (keys : ℕ → ℕ) where
-  -- any keys and digest constants; each C and A is 1, each D and B 3; the hashed RAW token is 7
+  -- any keys and digest constants; each C and A is 1, each D and B 3; then the hash of the RAW_UNLOCK token
   abbrev pub constants : List ℕ
-  constants = listed keys 0 36 ++ replicate 24 1 ++ replicate 24 3 ++ replicate 20 1 ++ replicate 20 3 ++ (7 ∷ replicate 7 0)
+  constants = listed keys 0 36 ++ replicate 24 1 ++ replicate 24 3 ++ replicate 20 1 ++ replicate 20 3 ++ wordsOf 8 (prims .hash 7)
 
   -- a chip with these cells, switched off
   abbrev pub chip : List ℕ → Machine

@@ -22,7 +22,7 @@ use Rattle.model.specs.declared.Answer.the-variants.{Done, Denied, NotRe
 use Rattle.model.specs.declared.Command.{Command}
 use Rattle.model.specs.declared.Command.the-variants.{Read, Write, FrontRead, Digest, ReadLock, Transition, PowerUp}
 use Rattle.model.specs.Session.{isReady, sensedLocked, readLocked}
-use Rattle.model.specs.Lent.{Machine, Primitives, keyOf, digestStart, digestFinal, rawToken}
+use Rattle.model.specs.Lent.{Machine, Primitives, keyOf, digestStart, digestFinal, rawUnlockHash}
 use Rattle.model.specs.Acts.{stay, lock, halt, die, Act, say, program, compare, refuse}
 
 -- "A direct access write, or a digest command, is now refused with 4 if any word of its target granule is nonzero, whatever the value. LIFE_CYCLE
@@ -74,6 +74,10 @@ module _ (prims : Primitives) where
   unfoldable pub computedDigest : List ℕ → Partition → List ℕ → ℕ
   computedDigest constants p cells = prims .digest (digestStart constants) (digestFinal constants) (dataWords p cells)
 
+  -- "The transition now takes the raw 128-bit token and hashes it .. The hash is compared" with the stored one (request Four)
+  unfoldable pub hashesTo : ℕ → ℕ → Bool
+  hashesTo given stored = eqb stored (prims .hash given)
+
 module _ (map : Map) where
   -- where the life cycle's 24 counter words start; its 20 state words follow
   unfoldable pub counterAt : ℕ
@@ -83,8 +87,8 @@ module _ (map : Map) where
   stateAt = counterAt + 24
 
   -- "The stored token is that in the sensed copy."
-  unfoldable pub tokenSame : Token → ℕ → List ℕ → Bool
-  tokenSame token given copy = eqb (numberOf (partAt copy (partition map (numberOfKind map (tokenKind token)) .start / 2 + tokenOffset token) 8)) given
+  unfoldable pub storedToken : Token → List ℕ → ℕ
+  storedToken token copy = numberOf (partAt copy (partition map (numberOfKind map (tokenKind token)) .start / 2 + tokenOffset token) 8)
 
 module _ (prims : Primitives) (map : Map) (m : Machine) where
   abbrev session : Session
@@ -148,12 +152,12 @@ module _ (prims : Primitives) (map : Map) (m : Machine) where
   unfoldable pub lockedTokenAct : Token → ℕ → ℕ → Act
   lockedTokenAct token target given =
       if not (sensedLocked session (numberOfKind map (tokenKind token))) then say TokenNotLocked halt
-      else compare (tokenSame map token given) (moveAct target) (say TokenDiffers halt)
+      else compare (λ copy. hashesTo prims given (storedToken map token copy)) (moveAct target) (say TokenDiffers halt)
 
   -- "With none, the token is ignored and 0x22, 0x23 aren't given; the RAW token needs no lock."
   unfoldable pub tokenAct : Token → ℕ → ℕ → Act
   tokenAct Nothing target given = moveAct target
-  tokenAct RawUnlock target given = compare (λ copy. eqb (rawToken constants) given) (moveAct target) (say TokenDiffers halt)
+  tokenAct RawUnlock target given = compare (λ copy. hashesTo prims given (rawUnlockHash constants)) (moveAct target) (say TokenDiffers halt)
   tokenAct TestUnlock target given = lockedTokenAct TestUnlock target given
   tokenAct TestExit target given = lockedTokenAct TestExit target given
   tokenAct Rma target given = lockedTokenAct Rma target given

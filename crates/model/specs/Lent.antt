@@ -40,11 +40,12 @@ digestStart constants = numberOf (partAt constants 24 4)
 unfoldable pub digestFinal : List ℕ → ℕ
 digestFinal constants = numberOf (partAt constants 28 8)
 
-unfoldable pub rawToken : List ℕ → ℕ
-rawToken constants = numberOf (partAt constants 124 8)
+unfoldable pub rawUnlockHash : List ℕ → ℕ
+rawUnlockHash constants = numberOf (partAt constants 124 8)
 
--- the cipher under a key, its inverse, and the digest of words from a start value with a final key
+-- the cipher under a key, its inverse, the digest of words from a start value with a final key, and the hash of a token
 pub record Primitives : Type 0 where
   pub encrypt : ℕ → ℕ → ℕ
   pub decrypt : ℕ → ℕ → ℕ
   pub digest : ℕ → ℕ → List ℕ → ℕ
+  pub hash : ℕ → ℕ

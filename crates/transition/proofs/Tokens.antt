@@ -19,7 +19,7 @@ use Rattle.model.specs.declared.Answer.the-variants.{TokenNotLocked, TokenDiffe
 use Rattle.model.specs.Session.{sensedAt, sensedLocked}
 use Rattle.model.specs.Lent.{Machine}
 use Rattle.model.specs.Acts.{halt, Act, say, compare}
-use Rattle.model.specs.Commands.{tokenKind, tokenSame, moveAct, lockedTokenAct, tokenAct, entryAct}
+use Rattle.model.specs.Commands.{tokenKind, storedToken, hashesTo, moveAct, lockedTokenAct, tokenAct, entryAct}
 use Rattle.model.specs.Step.{Result}
 use Rattle.chip.specs.Chip.{primitives}
 use Rattle.chip.proofs.Acting.{comesTo, compare-same, compare-other}
@@ -55,7 +55,7 @@ module _ (s : Session) (copy : List ℕ) (token : Token) (given : ℕ) where
   not-locked e = if-true _ _ (ap (λ (b : Bool). not (not b)) (eq-eqb _ 0 e))
 
   pub locked : (sensedAt s (numberOfKind map1 (tokenKind token)) ≡ 0 → ⊥)
-      → lockedPermit s copy token given ≡ comparedAs (tokenSame map1 token given copy)
+      → lockedPermit s copy token given ≡ comparedAs (hashesTo primitives given (storedToken map1 token copy))
   unfolding lockedPermit sensedLocked
   locked h = if-false _ _ (ap (λ (b : Bool). not (not b)) (ne-eqb _ 0 h))
 

@@ -2,7 +2,6 @@
 use Prim.Native.Nat.{ℕ}
 use mathlib.Core.Bool.{Bool, not}
 use mathlib.Core.List.{List}
-use lib.Dec.{eqb}
 use Rattle.basics.specs.Choice.{if_then_else_}
 use Rattle.words.specs.declared.Programmed.{Programmed}
 use Rattle.words.specs.declared.Programmed.the-variants as programmed
@@ -19,8 +18,9 @@ use Rattle.model.specs.declared.Answer.{Answer}
 use Rattle.model.specs.declared.Answer.the-variants.{Done, NotBlank, NotInTable, TokenNotLocked, TokenDiffers}
 use Rattle.model.specs.declared.Outcome.{Outcome}
 use Rattle.model.specs.Session.{sensedLocked, inPhase}
-use Rattle.model.specs.Lent.{rawToken}
-use Rattle.model.specs.Commands.{tokenKind, tokenSame}
+use Rattle.model.specs.Lent.{rawUnlockHash}
+use Rattle.model.specs.Commands.{tokenKind, storedToken, hashesTo}
+use Rattle.chip.specs.Chip.{primitives}
 use Rattle.transition.specs.declared.Permit.{Permit}
 use Rattle.transition.specs.declared.Permit.the-variants.{Granted, Refused}
 
@@ -32,11 +32,11 @@ comparedAs same = if same then Granted else Refused TokenDiffers
 unfoldable pub lockedPermit : Session → List ℕ → Token → ℕ → Permit
 lockedPermit s copy token given =
     if not (sensedLocked s (numberOfKind map1 (tokenKind token))) then Refused TokenNotLocked
-    else comparedAs (tokenSame map1 token given copy)
+    else comparedAs (hashesTo primitives given (storedToken map1 token copy))
 
 unfoldable pub tokenPermit : Session → List ℕ → List ℕ → Token → ℕ → Permit
 tokenPermit s copy constants Nothing given = Granted
-tokenPermit s copy constants RawUnlock given = comparedAs (eqb (rawToken constants) given)
+tokenPermit s copy constants RawUnlock given = comparedAs (hashesTo primitives given (rawUnlockHash constants))
 tokenPermit s copy constants TestUnlock given = lockedPermit s copy TestUnlock given
 tokenPermit s copy constants TestExit given = lockedPermit s copy TestExit given
 tokenPermit s copy constants Rma given = lockedPermit s copy Rma given

@@ -1,4 +1,4 @@
-// The life cycle transition: a stroke is spent first, then table and token are asked, then the state words are programmed.
+// The life cycle transition: a stroke is spent first, then the table is asked and the token hashed and compared, then the state words are programmed.
 use chip::Halves;
 use chip::Judged;
 use life_cycle::Entry;
@@ -17,7 +17,6 @@ use words::Programmed;
 use words::Rule;
 ghost use mathlib.Core.Path.{_≡_};
 ghost use Prim.Native.Nat.{suc, _+_, _*_, _/_, _^_, _<_};
-ghost use lib.Dec.{eqb};
 ghost use Rattle.words.specs.Programming.{programAnswer, programCells};
 ghost use Rattle.partitions.specs.Map.{partition, numberOfKind};
 ghost use Rattle.partitions.specs.Map1.{map1};
@@ -25,16 +24,16 @@ ghost use Rattle.life_cycle.specs.Words.{counterWords, stateWords};
 ghost use Rattle.life_cycle.specs.Transitions.{transition};
 ghost use Rattle.model.specs.declared.Command.{Command};
 ghost use Rattle.model.specs.Session.{inPhase};
-ghost use Rattle.model.specs.Commands.{lifeCycleRule, tokenKind, tokenOffset, counterAt, stateAt};
-ghost use Rattle.chip.specs.Chip.{machineOf, resultOf, resultFor};
+ghost use Rattle.model.specs.Commands.{lifeCycleRule, tokenKind, tokenOffset, hashesTo, counterAt, stateAt};
+ghost use Rattle.chip.specs.Chip.{primitives, machineOf, resultOf, resultFor};
 ghost use Rattle.transition.specs.Permit.{comparedAs, lockedPermit, permitOf, inert, dead, movedAs};
 
-// Where the counter words and the state words start, and the RAW_UNLOCK token among the constants.
+// Where the counter words and the state words start, and the hash of the RAW_UNLOCK token among the constants.
 const COUNTER: usize = LifeCyclePartition::START / 2;
 
 const STATE: usize = COUNTER + 24;
 
-const RAW_TOKEN: usize = 124;
+const RAW_UNLOCK_HASH: usize = 124;
 
 // Table and token permit the move, or refuse it with an answer.
 enum Permit {
@@ -125,17 +124,18 @@ fn place_of(token: Token) -> usize
     }
 }
 
-// The test behind 0x23.
-fn compared(token: Halves, high: u64, low: u64) -> Permit
-    ensures { λ r. ⌜ r ≡ comparedAs (eqb (token .high * 2 ^ 64 + token .low) (high * 2 ^ 64 + low)) ⌝ }
+// The test behind 0x23: the token given is hashed, and its hash compared with the stored one.
+fn compared(stored: Halves, high: u64, low: u64) -> Permit
+    ensures { λ r. ⌜ r ≡ comparedAs (hashesTo primitives (high * 2 ^ 64 + low) (stored .high * 2 ^ 64 + stored .low)) ⌝ }
 {
-    if (token.high == high) & (token.low == low) {
+    let hash = token_hash::hash_of(high, low);
+    if (stored.high == hash.high) & (stored.low == hash.low) {
         return Permit::Granted;
     }
     Permit::Refused(Answer::TokenDiffers)
 }
 
-// A stored token is that of the sensed copy, and its partition has to be sensed locked.
+// The hash of a token that is stored is that of the sensed copy, and its partition has to be sensed locked.
 fn locked_permit(copy: &[u16], session: Session, token: Token, high: u64, low: u64) -> Permit
     ensures { λ r. ⌜ r ≡ lockedPermit session (now (copy .entry)) token (high * 2 ^ 64 + low) ⌝ }
 {
@@ -145,7 +145,7 @@ fn locked_permit(copy: &[u16], session: Session, token: Token, high: u64, low: u
     compared(chip::eight_words(copy, place_of(token)), high, low)
 }
 
-// What the table's entry needs. The RAW_UNLOCK token is a constant and needs no lock.
+// What the table's entry needs. The hash of the RAW_UNLOCK token is a constant and needs no lock.
 fn permitted(
     copy: &[u16],
     constants: &[u16],
@@ -160,7 +160,7 @@ fn permitted(
         Entry::Forbidden => Permit::Refused(Answer::NotInTable),
         Entry::Allowed(token) => match token {
             Token::Nothing => Permit::Granted,
-            Token::RawUnlock => compared(chip::eight_words(constants, RAW_TOKEN), high, low),
+            Token::RawUnlock => compared(chip::eight_words(constants, RAW_UNLOCK_HASH), high, low),
             Token::TestUnlock => locked_permit(copy, session, token, high, low),
             Token::TestExit => locked_permit(copy, session, token, high, low),
             Token::Rma => locked_permit(copy, session, token, high, low),
@@ -168,7 +168,7 @@ fn permitted(
     }
 }
 
-// The transition command. The token comes as its high and its low 64 bits, hashed.
+// The transition command. The token comes raw, as its high and its low 64 bits.
 pub fn transition(
     cells: &mut [u16],
     copy: &[u16],

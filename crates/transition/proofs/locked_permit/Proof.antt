@@ -1,12 +1,12 @@
 -- First the lock, then the comparison with the eight words of the copy.
 use mathlib.Core.Path.{_≡_, sym, ap, _∙_}
 use Prim.Native.Nat.{ℕ, _+_, _*_, _^_}
-use lib.Dec.{eqb}
 use Rattle.words.specs.Words.{numberOf, partAt}
 use Rattle.partitions.specs.Map.{numberOfKind}
 use Rattle.partitions.specs.Map1.{map1}
 use Rattle.model.specs.Session.{sensedAt}
-use Rattle.model.specs.Commands.{tokenKind, tokenSame}
+use Rattle.model.specs.Commands.{tokenKind, storedToken, hashesTo}
+use Rattle.chip.specs.Chip.{primitives}
 use Rattle.transition.specs.Permit.{comparedAs}
 use Rattle.transition.proofs.Tokens.{not-locked, locked}
 use borrow.Author.Needs.{needs}
@@ -23,14 +23,14 @@ returns c =
     sym (not-locked (o .session) (o .copy .now) (o .token) _ (sym (sensed (c .before)) ∙ c .if1 .taken))
 
 returns-2 : tie.Need-returns-2
-unfolding tokenSame
+unfolding storedToken
 returns-2 c =
     let w = c .before in
     let t = w .before .before .before in
     let o = t .before .before .before .args in
     let given = o .high * 2 ^ 64 + o .low in
     c .compared .ensures
-    ∙ ap (λ (x : ℕ). comparedAs (eqb x given)) (w .eight-words .ensures ∙ ap (λ (at : ℕ). numberOf (partAt (o .copy .now) at 8)) (w .before .place-of .ensures))
+    ∙ ap (λ (x : ℕ). comparedAs (hashesTo primitives given x)) (w .eight-words .ensures ∙ ap (λ (at : ℕ). numberOf (partAt (o .copy .now) at 8)) (w .before .place-of .ensures))
     ∙ sym (locked (o .session) (o .copy .now) (o .token) given (λ e. w .before .before .if1 .left (sensed t ∙ e)))
 
 pub locked-permit-spec : {M : Type 1} → statement M

@@ -1,12 +1,13 @@
 -- Each arm is the definition at its entry and token.
 use mathlib.Core.Path.{_≡_, refl, sym, ap, _∙_}
 use Prim.Native.Nat.{ℕ, _+_, _*_, _^_}
-use lib.Dec.{eqb}
 use Rattle.life_cycle.specs.declared.Token.{Token}
 use Rattle.life_cycle.specs.declared.Token.the-variants.{Nothing, RawUnlock, TestUnlock, TestExit, Rma}
 use Rattle.life_cycle.specs.declared.Entry.{Entry}
 use Rattle.life_cycle.specs.Transitions.{transition}
-use Rattle.model.specs.Lent.{rawToken}
+use Rattle.model.specs.Lent.{rawUnlockHash}
+use Rattle.model.specs.Commands.{hashesTo}
+use Rattle.chip.specs.Chip.{primitives}
 use Rattle.transition.specs.declared.Permit.{Permit}
 use Rattle.transition.specs.Permit.{comparedAs, lockedPermit, tokenPermit, permitOf}
 use Rattle.transition.proofs.Tokens.{by-token}
@@ -39,11 +40,11 @@ unfolding tokenPermit
 returns-2 c = arm (c .before .before .before) Nothing _ (c .enum-told2 .given .1) refl
 
 returns-3 : tie.Need-returns-3
-unfolding tokenPermit rawToken
+unfolding tokenPermit rawUnlockHash
 returns-3 c =
     let e = c .before .before in
     let t = e .before .before .before in
-    arm t RawUnlock _ (e .enum-told3 .given .1) (c .compared .ensures ∙ ap (λ (x : ℕ). comparedAs (eqb x (given (start t)))) (c .before .eight-words .ensures))
+    arm t RawUnlock _ (e .enum-told3 .given .1) (c .compared .ensures ∙ ap (λ (x : ℕ). comparedAs (hashesTo primitives (given (start t)) x)) (c .before .eight-words .ensures))
 
 -- an arm on a stored token
 locked-arm : (t : tie.After-token) (token : Token) (p : Permit) → let o = start t .args in t .token .given .0 .0 ≡ token
