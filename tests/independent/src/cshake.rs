@@ -17,11 +17,6 @@ pub fn cshake128(message: &[u8], length: usize, name: &[u8], customization: &[u8
     ))
 }
 
-/// SHAKE128 of bytes, `length` bytes long.
-pub fn shake128(message: &[u8], length: usize) -> Vec<u8> {
-    bytes_of(&shake(&bits_of(message), 8 * length))
-}
-
 /// cSHAKE128 with neither name nor customization is SHAKE128.
 fn customized(message: &[bool], length: usize, name: &[bool], customization: &[bool]) -> Vec<bool> {
     if name.is_empty() && customization.is_empty() {
@@ -105,6 +100,10 @@ mod tests {
 
     fn hex(bytes: &[u8]) -> String {
         bytes.iter().map(|byte| format!("{byte:02x}")).collect()
+    }
+
+    fn shake128(message: &[u8], length: usize) -> Vec<u8> {
+        bytes_of(&shake(&bits_of(message), 8 * length))
     }
 
     /// Bytes 0, 1, 2 and so on, from 250 over to 0.

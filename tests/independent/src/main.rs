@@ -17,6 +17,7 @@ mod model;
 mod power_up;
 mod present;
 mod random;
+mod raw_tokens;
 mod runs;
 mod scenarios;
 mod script;
@@ -24,6 +25,7 @@ mod speed;
 mod sweeps;
 #[cfg(test)]
 mod the_cases;
+mod token;
 mod transition;
 mod twin;
 mod walk;
@@ -38,6 +40,7 @@ const USAGE: &str = "usage:
   independent speed [PROGRAM..]
   independent speed-power-up PROGRAM..
   independent compare-runs PROGRAM [COUNT] [SEED]
+  independent hash TOKEN
   independent bench";
 
 const CASES: u64 = 24_000;
@@ -74,6 +77,12 @@ fn perform(arguments: &[String]) -> Result<bool, String> {
             let seed = number(arguments.get(3), SEED)?;
             println!("seed {seed}");
             runs::compare(&arguments[1], count, &mut Random::new(seed))
+        }
+        (Some("hash"), 2) => {
+            let token = u128::from_str_radix(&arguments[1], 16)
+                .map_err(|_| format!("{}: not a token in hex", arguments[1]))?;
+            println!("{:032x}", token::hash(token));
+            Ok(true)
         }
         (Some("bench"), 1) => match bench::run() {
             Ok(()) => Ok(true),

@@ -2,8 +2,10 @@
 
 use crate::bench;
 use crate::chips;
+use crate::constants::lay_raw_token;
 use crate::model::{Chip, Command};
 use crate::random::Random;
+use crate::raw_tokens::RawTokens;
 use crate::script::{record, LONGEST};
 use crate::walk;
 
@@ -36,26 +38,30 @@ impl Run {
 
 /// A random run.
 pub fn make(random: &mut Random) -> Run {
-    let valid = chips::constants(random);
-    let cells = chips::image(&valid, random);
-    let constants = match random.below(16) {
-        0 => chips::invalid_constants(random),
+    let mut tokens = RawTokens::new();
+    let valid = chips::constants(&mut tokens, random);
+    let cells = chips::image(&valid, &mut tokens, random);
+    let mut constants = match random.below(16) {
+        0 => chips::invalid_constants(&mut tokens, random),
         // Valid, but not those of the image.
-        1 => chips::constants(random),
+        1 => chips::constants(&mut tokens, random),
         _ => valid,
     };
+    if random.one_in(24) {
+        lay_raw_token(&mut constants, tokens.mistaken(random));
+    }
     let mut chip = Chip::new(cells.clone(), constants.clone());
     Run {
-        script: script(&mut chip, random),
+        script: script(&mut chip, &mut tokens, random),
         image: file(bench::file_of_words(&cells), random),
         constants: file(bench::file_of_words(&constants), random),
     }
 }
 
 /// A script for the chip, well formed most of the time.
-fn script(chip: &mut Chip, random: &mut Random) -> Vec<u8> {
+fn script(chip: &mut Chip, tokens: &mut RawTokens, random: &mut Random) -> Vec<u8> {
     let length = random.choose(&[2, 12, 30, 60, 90, 120]);
-    let commands = walk::walk(chip, 1 + random.below(length), random);
+    let commands = walk::walk(chip, 1 + random.below(length), tokens, random);
     let mut records: Vec<Vec<u8>> = commands.into_iter().map(record).collect();
     match random.below(40) {
         0..=3 => records.push(cut(random)),

@@ -3,6 +3,7 @@
 
 use crate::cases::{Case, ANSWER_BYTES, CHAIN};
 use crate::random::Random;
+use crate::raw_tokens::RawTokens;
 use crate::scenarios::Run;
 use crate::{child, chips, runs, twin};
 use std::fs;
@@ -63,9 +64,10 @@ pub fn power_ups(programs: &[String]) -> Result<bool, String> {
 
 /// The cells and the constants of a chip that is fully locked.
 fn locked_chip() -> (Vec<u16>, Vec<u16>) {
-    let mut random = Random::new(1);
-    let constants = chips::constants(&mut random);
-    (chips::locked(&constants, &mut random), constants)
+    let (mut tokens, mut random) = (RawTokens::new(), Random::new(1));
+    let constants = chips::constants(&mut tokens, &mut random);
+    let cells = chips::locked(&constants, &mut tokens, &mut random);
+    (cells, constants)
 }
 
 fn time_power_ups(
