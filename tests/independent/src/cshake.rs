@@ -84,12 +84,12 @@ fn bytepad(string: &[bool], width: usize) -> Vec<bool> {
     padded
 }
 
-fn bits_of(bytes: &[u8]) -> Vec<bool> {
+pub fn bits_of(bytes: &[u8]) -> Vec<bool> {
     let bits = |byte: &u8| (0..8).map(|i| byte >> i & 1 == 1).collect::<Vec<bool>>();
     bytes.iter().flat_map(bits).collect()
 }
 
-fn bytes_of(bits: &[bool]) -> Vec<u8> {
+pub fn bytes_of(bits: &[bool]) -> Vec<u8> {
     let byte = |bits: &[bool]| bits.iter().rev().fold(0, |sum, &bit| sum << 1 | bit as u8);
     bits.chunks(8).map(byte).collect()
 }

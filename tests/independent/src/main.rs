@@ -9,6 +9,7 @@ mod compare;
 mod constants;
 mod cshake;
 mod digest;
+mod hash_inputs;
 mod inputs;
 mod keccak;
 mod life_cycle;
