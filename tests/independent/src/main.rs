@@ -29,6 +29,7 @@ mod the_cases;
 mod token;
 mod transition;
 mod twin;
+mod twin_token;
 mod walk;
 mod words;
 
@@ -71,7 +72,10 @@ fn perform(arguments: &[String]) -> Result<bool, String> {
             let cases = inputs::make(count as usize, &mut Random::new(seed));
             compare::compare(Path::new(&arguments[1]), &cases)
         }
-        (Some("speed"), 1..) => speed::encryptions(&arguments[1..]),
+        (Some("speed"), 1..) => {
+            let programs = &arguments[1..];
+            Ok(speed::encryptions(programs)? & speed::token_hashes(programs)?)
+        }
         (Some("speed-power-up"), 2..) => speed::power_ups(&arguments[1..]),
         (Some("compare-runs"), 2..=4) => {
             let count = number(arguments.get(2), RUNS)?;
