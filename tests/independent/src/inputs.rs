@@ -131,19 +131,7 @@ fn random_case(random: &mut Random) -> Case {
             let (n, fill) = (random.below(WORDS as u64 + 1), random.below(6));
             digest(n, fill, random)
         }
-        PROGRAM => {
-            let (n, m) = (random.below(HALF as u64 + 2), random_value_length(random));
-            let a = match random.below(8) {
-                0..=4 => random.below(n.max(1)),
-                5 => random.number(),
-                _ => random.choose(&places(n, m)),
-            };
-            let sort = random.choose(&[0, 1, 1, 2, 3, 4, 5, 5, 5, 5, 6]);
-            match random.one_in(2) {
-                true => program(a, n, m, sort, random),
-                false => burn(a, n, m, random.choose(&[0, 1, 1, 2, 8]), random),
-            }
-        }
+        PROGRAM => random_program(random),
         JOIN => Case {
             operation,
             n: random.below(10),
@@ -161,6 +149,20 @@ fn random_case(random: &mut Random) -> Case {
             operation,
             ..scribbled(random)
         },
+    }
+}
+
+fn random_program(random: &mut Random) -> Case {
+    let (n, m) = (random.below(HALF as u64 + 2), random_value_length(random));
+    let a = match random.below(8) {
+        0..=4 => random.below(n.max(1)),
+        5 => random.number(),
+        _ => random.choose(&places(n, m)),
+    };
+    let sort = random.choose(&[0, 1, 1, 2, 3, 4, 5, 5, 5, 5, 6]);
+    match random.one_in(2) {
+        true => program(a, n, m, sort, random),
+        false => burn(a, n, m, random.choose(&[0, 1, 1, 2, 8]), random),
     }
 }
 

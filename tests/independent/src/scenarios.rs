@@ -145,6 +145,8 @@ fn file(mut bytes: Vec<u8>, random: &mut Random) -> Option<Vec<u8>> {
 #[cfg(test)]
 mod tests {
     use super::*;
+    use crate::life_cycle::{token_between, Token};
+    use crate::script::{Next, Reader};
     use std::collections::BTreeSet;
 
     /// Kind and code of each pair that runs should bring out.
@@ -181,5 +183,39 @@ mod tests {
             }
         }
         panic!("never printed: {missing:?}");
+    }
+
+    /// The transitions of a run that ask for a token: the token and the code.
+    fn judged(run: &Run) -> Vec<(Token, u8)> {
+        let words = |file: &Option<Vec<u8>>| bench::words_of_file(file.as_deref().unwrap_or(&[]));
+        let mut chip = Chip::new(words(&run.image), words(&run.constants));
+        let mut reader = Reader::new(&run.script);
+        let mut judged = Vec::new();
+        while let Next::Record { command, .. } = reader.next() {
+            let state = chip.session.state;
+            let code = chip.execute(command).code;
+            if let (Command::Transition(target, _), 0 | 0x23) = (command, code) {
+                judged.extend(token_between(state, target).map(|asked| (asked, code)));
+            }
+        }
+        judged
+    }
+
+    /// In 800 runs about 80, 13, 27 and 10 right ones are usual.
+    #[test]
+    fn each_token_is_often_right_and_sometimes_wrong() {
+        let mut random = Random::new(32);
+        let runs = (0..800).map(|_| make(&mut random));
+        let judged: Vec<(Token, u8)> = runs.flat_map(|run| judged(&run)).collect();
+        for (asked, least) in [
+            (Token::Raw, 50),
+            (Token::TestUnlock, 6),
+            (Token::TestExit, 14),
+            (Token::Rma, 4),
+        ] {
+            let times = |code: u8| judged.iter().filter(|seen| **seen == (asked, code)).count();
+            assert!(times(0) >= least, "{asked:?} {}", times(0));
+            assert!(times(0x23) >= 1, "{asked:?} {}", times(0x23));
+        }
     }
 }
