@@ -3,17 +3,19 @@
 
 Each run is a folder: `about` (one line: what it shows), `script.bin`, `image.bin` and `constants.bin` (left out where the run has none) and
 `expected`, the bytes that the bench program has to print. Expected lines that document 01 fixes are written here by hand; those of the long
-runs come from the independent program, which was written from the papers: pass its path. The program under test is never asked.
+runs come from the independent program, which was written from the papers: pass its path. It also hashes the tokens that are to be stored. The
+program under test is never asked.
 
 usage: make_runs.py INDEPENDENT
 """
+import hashlib
 import os
 import shutil
 import subprocess
 import sys
-import tempfile
 
 HERE = os.path.dirname(os.path.abspath(__file__))
+INDEPENDENT = os.path.abspath(sys.argv[1])
 
 
 def number(value, size):
@@ -51,22 +53,40 @@ def move(target, token=0):
 
 UP = b"\x07"
 
-# Constants: keys, start value and final key by a simple rule; pairs that are valid; the hashed RAW token.
+
+def hashed(token):
+    """What is stored for a raw token."""
+    return int(subprocess.run([INDEPENDENT, "hash", "%032x" % token], stdout=subprocess.PIPE, check=True).stdout, 16)
+
+
+def backwards(wide):
+    """A number of 16 bytes with its bytes in the other order."""
+    return int.from_bytes(number(wide, 16), "big")
+
+
+# The raw tokens.
 RAW_TOKEN = 0x0F1E2D3C4B5A69788796A5B4C3D2E1F0
 TEST_UNLOCK = 0x11112222333344445555666677778888
 TEST_EXIT = 0x9999AAAABBBBCCCCDDDDEEEEFFFF0001
 RMA_TOKEN = 0x0123456789ABCDEFFEDCBA9876543210
+HASHES = {token: hashed(token) for token in (RAW_TOKEN, TEST_UNLOCK, TEST_EXIT, RMA_TOKEN)}
 # What a blank block of SECRET0 reads with these constants: zero, unscrambled.
 BLANK_READS = 0xEC66DF3A5DA109C0
 
 
 def constants():
+    """Keys, start value and final key by a simple rule; pairs that are valid; the hash of the RAW token."""
     keys = [(0x1357 * (i + 1)) % 65536 for i in range(36)]
     c = [0x0101 + 2 * i for i in range(24)]
     d = [v | 0x8000 for v in c]
     a = [0x0203 + 4 * i for i in range(20)]
     b = [v | 0x5000 for v in a]
-    return keys + c + d + a + b + [(RAW_TOKEN >> (16 * i)) % 65536 for i in range(8)]
+    return with_raw(keys + c + d + a + b, HASHES[RAW_TOKEN])
+
+
+def with_raw(values, stored):
+    """Constants with this stored for the RAW token."""
+    return values[:124] + [(stored >> (16 * i)) % 65536 for i in range(8)]
 
 
 def with_word(values, at, value):
@@ -95,19 +115,24 @@ def state(number_of_state):
     return [0] * 20 if number_of_state == 0 else [k[104 + i] if i in has else k[84 + i] for i in range(20)]
 
 
+def plain_lines(*answers):
+    """Lines from (kind, code, value)."""
+    return "".join("%02x %02x %016x\n" % a for a in answers).encode()
+
+
 def lines(*answers):
     """Lines from (kind, code, value), and the end line."""
-    text = "".join("%02x %02x %016x\n" % a for a in answers)
-    return (text + "end %d\n" % len(answers)).encode()
+    return plain_lines(*answers) + b"end %d\n" % len(answers)
 
 
 RUNS = []
 
 
-def run(name, about, script, expected=None, image=BLANK, consts=GOOD):
-    """A run; image and consts are words, bytes, or None for no file. With no expected lines the independent program is asked."""
+def run(name, about, script, expected=None, image=BLANK, consts=GOOD, last=b""):
+    """A run; image and consts are words, bytes, or None for no file. With no expected lines the independent program is asked; the lines before
+    its end line have to end with `last`, which the paper fixes."""
     as_bytes = lambda x: x if x is None or isinstance(x, bytes) else words(x)
-    RUNS.append((name, about, script, as_bytes(image), as_bytes(consts), expected))
+    RUNS.append((name, about, script, as_bytes(image), as_bytes(consts), expected, last))
 
 
 # ---- the document's example, and scripts that end at once
@@ -249,7 +274,7 @@ run("locked_names_no_word", "a locked partition answers 5 with value 0 first: th
     UP + write(0x100, 1 << 16) + write(0x1F8, 1) + write(0x100, 1) + write(0x1F8, 1) + UP + write(0x100, 1) + write(0x1F8, 1) + write(0x000, 1),
     lines((7, 0, 0), (2, 0, 0), (2, 0, 0), (2, 4, 0x81), (2, 4, 0xFC), (7, 0, 0), (2, 5, 0), (2, 5, 0), (2, 0, 0)))
 run("locked_secret_names_no_word", "a secret partition names a word until a digest command and a power-up have locked it, and no word after that",
-    UP + write(0x250, TEST_UNLOCK % 2**64) + write(0x250, 0) + digest(0x250) + digest(0x250) + UP + write(0x250, 0) + write(0x258, 0) + digest(0x250))
+    UP + write(0x250, HASHES[TEST_UNLOCK] % 2**64) + write(0x250, 0) + digest(0x250) + digest(0x250) + UP + write(0x250, 0) + write(0x258, 0) + digest(0x250))
 run("read_locked_names_a_word", "a read lock stops no write, and so a 4 names a word that can't be read",
     UP + write(0x100, 1 << 16) + lock(1) + read(0x100) + write(0x100, 1) + write(0x104, 1), lines((7, 0, 0), (2, 0, 0), (5, 0, 0), (1, 5, 0), (2, 4, 0x81), (2, 0, 0)))
 
@@ -268,8 +293,7 @@ run("addresses_at_edges", "reads, writes and front reads at both sides of every 
     UP + b"".join(read(a + d) + front(a + d) + write(a + d, 1) for a in (0, 0xF8, 0x100, 0x1F8, 0x200, 0x248, 0x250, 0x270, 0x278, 0x2C8, 0x2D0, 0x320, 0x328, 0x380) for d in (-4, -1, 0, 3) if a + d >= 0) + read(0xFFFFFFFF))
 
 # ---- a full provisioning
-TOKENS = (write(0x250, TEST_UNLOCK % 2**64) + write(0x258, TEST_UNLOCK >> 64) + write(0x260, TEST_EXIT % 2**64) + write(0x268, TEST_EXIT >> 64)
-          + write(0x2D0, RMA_TOKEN % 2**64) + write(0x2D8, RMA_TOKEN >> 64))
+TOKENS = b"".join(write(a, HASHES[token] % 2**64) + write(a + 8, HASHES[token] >> 64) for a, token in ((0x250, TEST_UNLOCK), (0x260, TEST_EXIT), (0x2D0, RMA_TOKEN)))
 FILL = (b"".join(write(a, 0x01010101 * (a % 251) + a) for a in range(0, 0xF8, 4)) + b"".join(write(a, 0x10001 * a) for a in range(0x100, 0x1F8, 4))
         + b"".join(write(a, 0xD00D0000 + a) for a in range(0x200, 0x248, 4)) + TOKENS
         + b"".join(write(a, 0x0123456789ABCDEF ^ a) for a in range(0x278, 0x2C8, 8)) + b"".join(write(a, 0xFEDCBA9876543210 ^ a) for a in range(0x2E0, 0x320, 8)))
@@ -289,6 +313,23 @@ run("prod_to_rma", "TEST_UNLOCKED0 to PROD with TEST_EXIT, and PROD to RMA with 
 run("prod_end_to_scrap", "TEST_UNLOCKED0 to PROD_END, which goes to SCRAP and not to RMA", LOCKED + move(18, TEST_EXIT) + UP + move(19, RMA_TOKEN) + UP + move(20) + UP)
 run("all_strokes", "24 strokes spent on wrong tokens, then 0x20", UP + (move(1, 5) + UP) * 26)
 
+# ---- tokens by their hashes
+STORED = UP + TOKENS + digest(0x250) + digest(0x2D0) + UP
+for name, old, new, token in (("raw_unlock", 0, 1, RAW_TOKEN), ("test_unlock", 2, 3, TEST_UNLOCK), ("test_exit", 1, 16, TEST_EXIT), ("rma", 17, 19, RMA_TOKEN)):
+    run("token_%s" % name, "the raw token whose hash is stored lets state %d go to %d" % (old, new),
+        STORED + move(new, token) + UP, image=life(1, state(old)), last=plain_lines((6, 0, 0), (7, 0, 512 + new)))
+    run("token_%s_hashed" % name, "the stored hash itself, given as the token, is refused with 0x23 and the stroke is spent",
+        STORED + move(new, HASHES[token]) + UP, image=life(1, state(old)), last=plain_lines((6, 0x23, 0), (7, 0, 512 + old)))
+REFUSED = lines((7, 0, 0), (6, 0x23, 0), (7, 0, 256))
+run("token_bytes_backwards", "a token with its bytes in the other order", UP + move(1, backwards(RAW_TOKEN)) + UP, REFUSED)
+run("token_hash_backwards", "a hash stored with its bytes in the other order lets nothing through, neither the token nor what is stored",
+    UP + move(1, RAW_TOKEN) + UP + move(1, backwards(HASHES[RAW_TOKEN])) + UP, lines((7, 0, 0), (6, 0x23, 0), (7, 0, 256), (6, 0x23, 0), (7, 0, 512)),
+    consts=with_raw(GOOD, backwards(HASHES[RAW_TOKEN])))
+run("token_shake128", "SHAKE128 of the token, without the customization, is stored", UP + move(1, RAW_TOKEN) + UP, REFUSED,
+    consts=with_raw(GOOD, int.from_bytes(hashlib.shake_128(number(RAW_TOKEN, 16)).digest(16), "little")))
+run("token_zero", "the token zero has a hash like any other", UP + move(1, 0) + UP, lines((7, 0, 0), (6, 0, 0), (7, 0, 257)), consts=with_raw(GOOD, hashed(0)))
+run("token_zero_stored", "zero stored is no hash of zero", UP + move(1, 0) + UP, REFUSED, consts=with_raw(GOOD, 0))
+
 # ---- power-ups that fail
 run("invalid_life_cycle", "a state word that is neither A nor B: 7 with 0xFFFF", UP + read(0) + UP, lines((7, 7, 0xFFFF), (1, 7, 0), (7, 7, 0xFFFF)), with_word(life(3, state(5)), 440, 0x7777))
 run("count_0_with_a_state", "count 0 with a state other than RAW: 7 with 0xFFFF", UP, lines((7, 7, 0xFFFF)), [0] * 428 + state(1))
@@ -300,9 +341,8 @@ run("digest_before_life_cycle", "the digest check comes before the life cycle", 
 
 
 def main():
-    independent = os.path.abspath(sys.argv[1])
     shutil.rmtree(os.path.join(HERE, "runs"), ignore_errors=True)
-    for name, about, script, image, consts, expected in RUNS:
+    for name, about, script, image, consts, expected, last in RUNS:
         folder = os.path.join(HERE, "runs", name)
         os.makedirs(folder)
         files = {"script.bin": script, "image.bin": image, "constants.bin": consts, "about": about.encode() + b"\n"}
@@ -310,8 +350,8 @@ def main():
             if data is not None:
                 with open(os.path.join(folder, file), "wb") as f:
                     f.write(data)
-        answer = subprocess.run([independent, "bench"], cwd=folder, input=script, stdout=subprocess.PIPE, check=True).stdout
-        if expected is not None and expected != answer:
+        answer = subprocess.run([INDEPENDENT, "bench"], cwd=folder, input=script, stdout=subprocess.PIPE, check=True).stdout
+        if expected is not None and expected != answer or not answer[: answer.index(b"end")].endswith(last):
             sys.exit("%s: the paper's lines and the independent program's differ" % name)
         with open(os.path.join(folder, "expected"), "wb") as f:
             f.write(answer if expected is None else expected)

@@ -1,22 +1,22 @@
 //! Random constants and images. Images are made by running commands on the
 //! chip itself, so that digests are right; some are damaged afterwards.
 
-use crate::constants::{A, B, C, CONSTANTS, COUNTERS, D, FINAL_KEY, RAW_TOKEN, STATES};
+use crate::constants::{self, A, B, C, CONSTANTS, COUNTERS, D, FINAL_KEY, STATES};
 use crate::life_cycle::{counter_words, state_words};
 use crate::map::{CELLS, HW_CFG, LIFE_CYCLE, MAP, SECRET0, SECRET2};
 use crate::model::{Chip, Command};
 use crate::random::Random;
+use crate::raw_tokens::{half_of, RawTokens};
+use crate::transition::STORED_TOKENS;
 use crate::walk;
 
 /// Random valid constants.
-pub fn constants(random: &mut Random) -> Vec<u16> {
+pub fn constants(tokens: &mut RawTokens, random: &mut Random) -> Vec<u16> {
     let mut words: Vec<u16> = (0..CONSTANTS).map(|_| random.word()).collect();
     if random.one_in(8) {
         words[..FINAL_KEY].fill(0);
     }
-    if random.one_in(8) {
-        words[RAW_TOKEN..].fill(0);
-    }
+    constants::lay_raw_token(&mut words, tokens.hashed(random));
     for i in 0..COUNTERS {
         (words[C + i], words[D + i]) = growing_pair(random);
     }
@@ -41,8 +41,8 @@ fn growing_pair(random: &mut Random) -> (u16, u16) {
 }
 
 /// Constants with one thing wrong, or with nothing in them.
-pub fn invalid_constants(random: &mut Random) -> Vec<u16> {
-    let mut words = constants(random);
+pub fn invalid_constants(tokens: &mut RawTokens, random: &mut Random) -> Vec<u16> {
+    let mut words = constants(tokens, random);
     let (low, high) = match random.below(2) {
         0 => (C, D),
         _ => (A, B),
@@ -70,11 +70,11 @@ fn random_below(random: &mut Random, bound: usize) -> usize {
 }
 
 /// A random image for the constants.
-pub fn image(constants: &[u16], random: &mut Random) -> Vec<u16> {
+pub fn image(constants: &[u16], tokens: &mut RawTokens, random: &mut Random) -> Vec<u16> {
     let mut cells = match random.below(16) {
         0..=2 => vec![0; CELLS],
-        3..=9 => provisioned(constants, 2, random),
-        10..=12 => provisioned(constants, 64, random),
+        3..=9 => provisioned(constants, 2, tokens, random),
+        10..=12 => provisioned(constants, 64, tokens, random),
         13..=14 => raw_noise(random),
         _ if random.one_in(4) => vec![0xffff; CELLS],
         _ => vec![0; CELLS],
@@ -89,16 +89,39 @@ pub fn image(constants: &[u16], random: &mut Random) -> Vec<u16> {
 }
 
 /// An image with all data written and all digests stored, still RAW.
-pub fn locked(constants: &[u16], random: &mut Random) -> Vec<u16> {
-    written(constants, u64::MAX, random).cells
+pub fn locked(constants: &[u16], tokens: &mut RawTokens, random: &mut Random) -> Vec<u16> {
+    written(constants, u64::MAX, tokens, random).cells
+}
+
+/// An image with what is stored for three tokens, and their partitions locked.
+pub fn with_tokens(constants: &[u16], stored: [u128; 3]) -> Vec<u16> {
+    let mut chip = Chip::new(vec![0; CELLS], constants.to_vec());
+    chip.execute(Command::PowerUp);
+    for ((_, address), stored) in STORED_TOKENS.into_iter().zip(stored) {
+        store(&mut chip, address, stored);
+    }
+    for secret in [SECRET0, SECRET2] {
+        chip.execute(Command::Digest(MAP[secret].start));
+    }
+    chip.cells
+}
+
+fn store(chip: &mut Chip, address: u32, stored: u128) {
+    chip.execute(Command::Write(address, half_of(stored, false)));
+    chip.execute(Command::Write(address + 8, half_of(stored, true)));
 }
 
 /// An image left by a provisioning that skips one step in `skip`, and by some
 /// transitions after it.
-pub fn provisioned(constants: &[u16], skip: u64, random: &mut Random) -> Vec<u16> {
-    let mut chip = written(constants, skip, random);
+pub fn provisioned(
+    constants: &[u16],
+    skip: u64,
+    tokens: &mut RawTokens,
+    random: &mut Random,
+) -> Vec<u16> {
+    let mut chip = written(constants, skip, tokens, random);
     for _ in 0..random.choose(&[0, 0, 1, 1, 2, 2, 3, 4, 6, 10]) {
-        let transition = walk::transition(&chip, random);
+        let transition = walk::transition(&chip, tokens, random);
         chip.execute(transition);
         chip.execute(Command::PowerUp);
     }
@@ -106,11 +129,16 @@ pub fn provisioned(constants: &[u16], skip: u64, random: &mut Random) -> Vec<u16
 }
 
 /// A chip powered up after its partitions were written and digested.
-fn written(constants: &[u16], skip: u64, random: &mut Random) -> Chip {
+fn written(constants: &[u16], skip: u64, tokens: &mut RawTokens, random: &mut Random) -> Chip {
     let mut chip = Chip::new(vec![0; CELLS], constants.to_vec());
     chip.execute(Command::PowerUp);
     for (number, partition) in MAP[..LIFE_CYCLE].iter().enumerate() {
         let full = !random.one_in(skip);
+        if full || !random.one_in(8) {
+            let mistaken = random.one_in(skip) && random.one_in(8);
+            store_tokens(&mut chip, number, mistaken, tokens, random);
+        }
+        // A granule that is written already stays as it is.
         for address in (partition.start..partition.digest).step_by(partition.granule as usize) {
             if full || random.one_in(4) {
                 chip.execute(Command::Write(address, random.next()));
@@ -129,6 +157,25 @@ fn written(constants: &[u16], skip: u64, random: &mut Random) -> Chip {
     }
     chip.execute(Command::PowerUp);
     chip
+}
+
+/// Stores hashes where a partition has tokens, or what mistakes give.
+fn store_tokens(
+    chip: &mut Chip,
+    number: usize,
+    mistaken: bool,
+    tokens: &mut RawTokens,
+    random: &mut Random,
+) {
+    for (partition, address) in STORED_TOKENS {
+        if partition == number {
+            let stored = match mistaken {
+                true => tokens.mistaken(random),
+                false => tokens.hashed(random),
+            };
+            store(chip, address, stored);
+        }
+    }
 }
 
 /// Few set bits, with or without the life cycle left blank.
@@ -185,10 +232,10 @@ mod tests {
 
     #[test]
     fn constants_are_what_they_are_called() {
-        let mut random = Random::new(11);
+        let (mut tokens, mut random) = (RawTokens::new(), Random::new(11));
         for _ in 0..500 {
-            assert!(valid(&constants(&mut random)));
-            assert!(!valid(&invalid_constants(&mut random)));
+            assert!(valid(&constants(&mut tokens, &mut random)));
+            assert!(!valid(&invalid_constants(&mut tokens, &mut random)));
         }
     }
 
@@ -197,8 +244,10 @@ mod tests {
         let mut random = Random::new(12);
         let mut seen = std::collections::BTreeMap::new();
         for _ in 0..300 {
-            let constants = constants(&mut random);
-            let mut chip = Chip::new(image(&constants, &mut random), constants);
+            let mut tokens = RawTokens::new();
+            let constants = constants(&mut tokens, &mut random);
+            let cells = image(&constants, &mut tokens, &mut random);
+            let mut chip = Chip::new(cells, constants);
             *seen.entry(chip.execute(Command::PowerUp).code).or_insert(0) += 1;
         }
         assert!(seen.keys().eq([0, 6, 7].iter()), "{seen:?}");

@@ -1,4 +1,4 @@
-//! The constants: keys, digest numbers, life cycle words, RAW token.
+//! The constants: keys, digest numbers, life cycle words, the RAW token's hash.
 
 use crate::map::SECRET0;
 use crate::words;
@@ -55,6 +55,19 @@ fn wide(constants: &[u16], at: usize) -> u128 {
     words::wide_number(&constants[at..])
 }
 
+/// Puts in the hash of the RAW token.
+pub fn lay_raw_token(constants: &mut [u16], stored: u128) {
+    for (i, word) in constants[RAW_TOKEN..].iter_mut().enumerate() {
+        *word = (stored >> (16 * i)) as u16;
+    }
+}
+
+/// A raw token and its hash, which the constants for tests have.
+#[cfg(test)]
+pub const EXAMPLE_TOKEN: u128 = 0x0011_2233_4455_6677_8899_aabb_ccdd_eeff;
+#[cfg(test)]
+pub const EXAMPLE_HASH: u128 = 0x4a8d_aa85_8e30_48d9_6b28_9b68_d4ef_0b76;
+
 /// Plain valid constants for tests.
 #[cfg(test)]
 pub fn example() -> Vec<u16> {
@@ -63,6 +76,7 @@ pub fn example() -> Vec<u16> {
     constants[D..A].fill(0x8181);
     constants[A..B].fill(0x0011);
     constants[B..RAW_TOKEN].fill(0x1111);
+    lay_raw_token(&mut constants, EXAMPLE_HASH);
     constants
 }
 
@@ -101,5 +115,9 @@ mod tests {
         assert_eq!(digest_start(&constants), 0x001b_001a_0019_0018);
         assert_eq!(final_key(&constants) >> 64, 0x0023_0022_0021_0020);
         assert_eq!(raw_token(&constants) >> 112, 131);
+        let mut laid = constants.clone();
+        lay_raw_token(&mut laid, 0x0107_0106_0105_0104_0103_0102_0101_0100);
+        assert_eq!(laid[..RAW_TOKEN], constants[..RAW_TOKEN]);
+        assert_eq!(laid[RAW_TOKEN..], [256, 257, 258, 259, 260, 261, 262, 263]);
     }
 }

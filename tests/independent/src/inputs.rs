@@ -1,6 +1,9 @@
 //! The making of cases: first a sweep over the edges, then random ones.
 
-use crate::cases::{Case, CHAIN, DECRYPT, DIGEST, ENCRYPT, HALF, JOIN, PROGRAM, SPLIT, WORDS};
+use crate::cases::{
+    Case, CHAIN, CSHAKE, DECRYPT, DIGEST, ENCRYPT, HALF, JOIN, PROGRAM, SPLIT, TOKEN, WORDS,
+};
+use crate::hash_inputs;
 use crate::random::Random;
 
 /// `count` cases: the sweep, cut if it is longer, and random cases after it.
@@ -16,7 +19,7 @@ pub fn make(count: usize, random: &mut Random) -> Vec<Case> {
 /// The edges, each at least once.
 fn sweep(random: &mut Random) -> Vec<Case> {
     let mut cases = Vec::new();
-    for operation in [0, 8, 9, 255, 256, 257, 1 << 32 | 1, 1 << 63, u64::MAX] {
+    for operation in [0, 11, 12, 255, 257, 266, 1 << 32 | 1, 1 << 63 | 8, u64::MAX] {
         cases.push(Case {
             operation,
             ..scribbled(random)
@@ -48,6 +51,7 @@ fn sweep(random: &mut Random) -> Vec<Case> {
         });
     }
     sweep_program(&mut cases, random);
+    hash_inputs::sweep(&mut cases, random);
     cases
 }
 
@@ -119,25 +123,15 @@ fn places(n: u64, m: u64) -> [u64; 12] {
 }
 
 fn random_case(random: &mut Random) -> Case {
-    let operation = 1 + random.below(7);
+    // Programming has the most edges, and so two shares.
+    let operation = random.choose(&[1, 2, 3, 4, 4, 5, 6, 7, 8, 9, 10]);
     match operation {
+        CSHAKE..=TOKEN => hash_inputs::random_case(operation, random),
         DIGEST => {
             let (n, fill) = (random.below(WORDS as u64 + 1), random.below(6));
             digest(n, fill, random)
         }
-        PROGRAM => {
-            let (n, m) = (random.below(HALF as u64 + 2), random_value_length(random));
-            let a = match random.below(8) {
-                0..=4 => random.below(n.max(1)),
-                5 => random.number(),
-                _ => random.choose(&places(n, m)),
-            };
-            let sort = random.choose(&[0, 1, 1, 2, 3, 4, 5, 5, 5, 5, 6]);
-            match random.one_in(2) {
-                true => program(a, n, m, sort, random),
-                false => burn(a, n, m, random.choose(&[0, 1, 1, 2, 8]), random),
-            }
-        }
+        PROGRAM => random_program(random),
         JOIN => Case {
             operation,
             n: random.below(10),
@@ -158,6 +152,20 @@ fn random_case(random: &mut Random) -> Case {
     }
 }
 
+fn random_program(random: &mut Random) -> Case {
+    let (n, m) = (random.below(HALF as u64 + 2), random_value_length(random));
+    let a = match random.below(8) {
+        0..=4 => random.below(n.max(1)),
+        5 => random.number(),
+        _ => random.choose(&places(n, m)),
+    };
+    let sort = random.choose(&[0, 1, 1, 2, 3, 4, 5, 5, 5, 5, 6]);
+    match random.one_in(2) {
+        true => program(a, n, m, sort, random),
+        false => burn(a, n, m, random.choose(&[0, 1, 1, 2, 8]), random),
+    }
+}
+
 fn random_value_length(random: &mut Random) -> u64 {
     if random.one_in(2) {
         random.choose(&[0, 1, 2, 4, 4, 20, 24])
@@ -168,7 +176,7 @@ fn random_value_length(random: &mut Random) -> u64 {
 
 /// A case with something in every field, so that what an operation must not
 /// look at is not zero.
-fn scribbled(random: &mut Random) -> Case {
+pub fn scribbled(random: &mut Random) -> Case {
     let mut case = Case::blank(0);
     case.a = random.number();
     case.b = if random.one_in(8) {

@@ -7,14 +7,18 @@ mod child;
 mod chips;
 mod compare;
 mod constants;
+mod cshake;
 mod digest;
+mod hash_inputs;
 mod inputs;
+mod keccak;
 mod life_cycle;
 mod map;
 mod model;
 mod power_up;
 mod present;
 mod random;
+mod raw_tokens;
 mod runs;
 mod scenarios;
 mod script;
@@ -22,8 +26,10 @@ mod speed;
 mod sweeps;
 #[cfg(test)]
 mod the_cases;
+mod token;
 mod transition;
 mod twin;
+mod twin_token;
 mod walk;
 mod words;
 
@@ -36,6 +42,7 @@ const USAGE: &str = "usage:
   independent speed [PROGRAM..]
   independent speed-power-up PROGRAM..
   independent compare-runs PROGRAM [COUNT] [SEED]
+  independent hash TOKEN
   independent bench";
 
 const CASES: u64 = 24_000;
@@ -65,13 +72,22 @@ fn perform(arguments: &[String]) -> Result<bool, String> {
             let cases = inputs::make(count as usize, &mut Random::new(seed));
             compare::compare(Path::new(&arguments[1]), &cases)
         }
-        (Some("speed"), 1..) => speed::encryptions(&arguments[1..]),
+        (Some("speed"), 1..) => {
+            let programs = &arguments[1..];
+            Ok(speed::encryptions(programs)? & speed::token_hashes(programs)?)
+        }
         (Some("speed-power-up"), 2..) => speed::power_ups(&arguments[1..]),
         (Some("compare-runs"), 2..=4) => {
             let count = number(arguments.get(2), RUNS)?;
             let seed = number(arguments.get(3), SEED)?;
             println!("seed {seed}");
             runs::compare(&arguments[1], count, &mut Random::new(seed))
+        }
+        (Some("hash"), 2) => {
+            let token = u128::from_str_radix(&arguments[1], 16)
+                .map_err(|_| format!("{}: not a token in hex", arguments[1]))?;
+            println!("{:032x}", token::hash(token));
+            Ok(true)
         }
         (Some("bench"), 1) => match bench::run() {
             Ok(()) => Ok(true),

@@ -2,8 +2,10 @@
 
 use crate::bench;
 use crate::chips;
+use crate::constants::lay_raw_token;
 use crate::model::{Chip, Command};
 use crate::random::Random;
+use crate::raw_tokens::RawTokens;
 use crate::script::{record, LONGEST};
 use crate::walk;
 
@@ -36,26 +38,30 @@ impl Run {
 
 /// A random run.
 pub fn make(random: &mut Random) -> Run {
-    let valid = chips::constants(random);
-    let cells = chips::image(&valid, random);
-    let constants = match random.below(16) {
-        0 => chips::invalid_constants(random),
+    let mut tokens = RawTokens::new();
+    let valid = chips::constants(&mut tokens, random);
+    let cells = chips::image(&valid, &mut tokens, random);
+    let mut constants = match random.below(16) {
+        0 => chips::invalid_constants(&mut tokens, random),
         // Valid, but not those of the image.
-        1 => chips::constants(random),
+        1 => chips::constants(&mut tokens, random),
         _ => valid,
     };
+    if random.one_in(24) {
+        lay_raw_token(&mut constants, tokens.mistaken(random));
+    }
     let mut chip = Chip::new(cells.clone(), constants.clone());
     Run {
-        script: script(&mut chip, random),
+        script: script(&mut chip, &mut tokens, random),
         image: file(bench::file_of_words(&cells), random),
         constants: file(bench::file_of_words(&constants), random),
     }
 }
 
 /// A script for the chip, well formed most of the time.
-fn script(chip: &mut Chip, random: &mut Random) -> Vec<u8> {
+fn script(chip: &mut Chip, tokens: &mut RawTokens, random: &mut Random) -> Vec<u8> {
     let length = random.choose(&[2, 12, 30, 60, 90, 120]);
-    let commands = walk::walk(chip, 1 + random.below(length), random);
+    let commands = walk::walk(chip, 1 + random.below(length), tokens, random);
     let mut records: Vec<Vec<u8>> = commands.into_iter().map(record).collect();
     match random.below(40) {
         0..=3 => records.push(cut(random)),
@@ -139,6 +145,8 @@ fn file(mut bytes: Vec<u8>, random: &mut Random) -> Option<Vec<u8>> {
 #[cfg(test)]
 mod tests {
     use super::*;
+    use crate::life_cycle::{token_between, Token};
+    use crate::script::{Next, Reader};
     use std::collections::BTreeSet;
 
     /// Kind and code of each pair that runs should bring out.
@@ -175,5 +183,39 @@ mod tests {
             }
         }
         panic!("never printed: {missing:?}");
+    }
+
+    /// The transitions of a run that ask for a token: the token and the code.
+    fn judged(run: &Run) -> Vec<(Token, u8)> {
+        let words = |file: &Option<Vec<u8>>| bench::words_of_file(file.as_deref().unwrap_or(&[]));
+        let mut chip = Chip::new(words(&run.image), words(&run.constants));
+        let mut reader = Reader::new(&run.script);
+        let mut judged = Vec::new();
+        while let Next::Record { command, .. } = reader.next() {
+            let state = chip.session.state;
+            let code = chip.execute(command).code;
+            if let (Command::Transition(target, _), 0 | 0x23) = (command, code) {
+                judged.extend(token_between(state, target).map(|asked| (asked, code)));
+            }
+        }
+        judged
+    }
+
+    /// In 800 runs about 80, 13, 27 and 10 right ones are usual.
+    #[test]
+    fn each_token_is_often_right_and_sometimes_wrong() {
+        let mut random = Random::new(32);
+        let runs = (0..800).map(|_| make(&mut random));
+        let judged: Vec<(Token, u8)> = runs.flat_map(|run| judged(&run)).collect();
+        for (asked, least) in [
+            (Token::Raw, 50),
+            (Token::TestUnlock, 6),
+            (Token::TestExit, 14),
+            (Token::Rma, 4),
+        ] {
+            let times = |code: u8| judged.iter().filter(|seen| **seen == (asked, code)).count();
+            assert!(times(0) >= least, "{asked:?} {}", times(0));
+            assert!(times(0x23) >= 1, "{asked:?} {}", times(0x23));
+        }
     }
 }

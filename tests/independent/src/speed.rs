@@ -1,10 +1,12 @@
 //! Speeds of proved programs, all in one run: encryptions a second, key
-//! schedule included, beside the twins', and the time of a power-up.
+//! schedule included, and the time of a token's hash, beside the twins', and
+//! the time of a power-up.
 
-use crate::cases::{Case, ANSWER_BYTES, CHAIN};
+use crate::cases::{Case, ANSWER_BYTES, CHAIN, TOKEN};
 use crate::random::Random;
+use crate::raw_tokens::RawTokens;
 use crate::scenarios::Run;
-use crate::{child, chips, runs, twin};
+use crate::{child, chips, runs, twin, twin_token};
 use std::fs;
 use std::hint::black_box;
 use std::path::Path;
@@ -14,6 +16,7 @@ use std::time::{Duration, Instant};
 const TRIES: usize = 5;
 
 const ENCRYPTIONS: u64 = 500_000;
+const HASHES: u64 = 100_000;
 const POWER_UPS: u64 = 10_000;
 
 const KEY: (u64, u64) = (0x0123_4567_89ab_cdef, 0xfedc_ba98_7654_3210);
@@ -52,6 +55,31 @@ pub fn encryptions(programs: &[String]) -> Result<bool, String> {
     Ok(true)
 }
 
+/// Prints the time of a token's hash, of programs and of the twin. A program
+/// that has no such operation is named and left out. False when results differ.
+pub fn token_hashes(programs: &[String]) -> Result<bool, String> {
+    let mut runners = vec![Runner::new("twin", |n| Ok(twin_hashes(n)))];
+    for program in programs {
+        // A program without this operation answers zeros.
+        match program_hashes(program, 1)? == [0; 16] {
+            true => println!("     no token hashes: {program}"),
+            false => runners.push(Runner::new(program, |n| program_hashes(program, n))),
+        }
+    }
+    let Some(times) = best_times(&runners, HASHES)? else {
+        return Ok(false);
+    };
+    for (runner, time) in runners.iter().zip(&times) {
+        let each = time.as_secs_f64() * 1e9 / HASHES as f64;
+        let ratio = time.as_secs_f64() / times[0].as_secs_f64();
+        println!(
+            "{each:>9.0} nanoseconds a token hash, {ratio:.2} times as long as the twin: {}",
+            runner.name
+        );
+    }
+    Ok(true)
+}
+
 /// Prints the time of a power-up on bench programs, of a blank chip and of one
 /// that is fully locked. False when what they print differs.
 pub fn power_ups(programs: &[String]) -> Result<bool, String> {
@@ -63,9 +91,10 @@ pub fn power_ups(programs: &[String]) -> Result<bool, String> {
 
 /// The cells and the constants of a chip that is fully locked.
 fn locked_chip() -> (Vec<u16>, Vec<u16>) {
-    let mut random = Random::new(1);
-    let constants = chips::constants(&mut random);
-    (chips::locked(&constants, &mut random), constants)
+    let (mut tokens, mut random) = (RawTokens::new(), Random::new(1));
+    let constants = chips::constants(&mut tokens, &mut random);
+    let cells = chips::locked(&constants, &mut tokens, &mut random);
+    (cells, constants)
 }
 
 fn time_power_ups(
@@ -146,16 +175,33 @@ fn twin_chain(layers: impl Fn(u64) -> u64, count: u64) -> Vec<u8> {
 fn program_chain(program: &str, count: u64) -> Result<Vec<u8>, String> {
     let mut case = Case::blank(CHAIN);
     (case.a, case.b, case.c, case.n) = (KEY.0, KEY.1, BLOCK, count);
-    let outcome = child::run(
-        Path::new(program),
-        Path::new("."),
-        case.bytes(),
-        ANSWER_BYTES,
-    )?;
+    Ok(one_answer(program, &case)?[..8].to_vec())
+}
+
+/// The token hashed first: the cipher's key.
+fn token() -> u128 {
+    u128::from(KEY.0) << 64 | u128::from(KEY.1)
+}
+
+fn twin_hashes(count: u64) -> Vec<u8> {
+    let result = twin_token::chain(black_box(token()), black_box(count));
+    black_box(result).to_le_bytes().to_vec()
+}
+
+fn program_hashes(program: &str, count: u64) -> Result<Vec<u8>, String> {
+    let mut case = Case::blank(TOKEN);
+    (case.a, case.b, case.n) = (KEY.0, KEY.1, count);
+    Ok(one_answer(program, &case)?[32..48].to_vec())
+}
+
+/// What a program answers to one case.
+fn one_answer(program: &str, case: &Case) -> Result<Vec<u8>, String> {
+    let folder = Path::new(".");
+    let outcome = child::run(Path::new(program), folder, case.bytes(), ANSWER_BYTES)?;
     if outcome.output.len() != ANSWER_BYTES || !outcome.ended_well {
         return Err(format!("{program}: no right answer to one case"));
     }
-    Ok(outcome.output[..8].to_vec())
+    Ok(outcome.output)
 }
 
 /// What a bench program prints of a script of power-ups.

@@ -1,19 +1,22 @@
 //! Runs over the edges, each at least once; they come before random ones.
 
 use crate::chips;
-use crate::constants::{A, B, C, D};
+use crate::constants::{lay_raw_token, A, B, C, D};
 use crate::life_cycle::{token_between, SCRAP};
 use crate::map::{find, Partition, CELLS, HW_CFG, LIFE_CYCLE, MAP};
 use crate::model::{Chip, Command};
 use crate::random::Random;
+use crate::raw_tokens::{RawTokens, MISTAKES};
 use crate::scenarios::Run;
 use crate::script::record;
+use crate::token::hash;
 use Command::{Digest, FrontRead, PowerUp, Read, ReadLock, Transition, Write};
 
 /// All sweeps, over one set of valid constants.
 pub fn runs(random: &mut Random) -> Vec<Run> {
-    let constants = chips::constants(random);
-    let mut runs = addresses(&constants, random);
+    let mut tokens = RawTokens::new();
+    let constants = chips::constants(&mut tokens, random);
+    let mut runs = addresses(&constants, &mut tokens, random);
     runs.extend(digest_edges(&constants));
     runs.extend(held_words(&constants));
     runs.extend(second_digests(&constants));
@@ -21,8 +24,10 @@ pub fn runs(random: &mut Random) -> Vec<Run> {
     runs.extend(broken_scripts(&constants));
     runs.extend(broken_constants(&constants));
     runs.extend(life_cycles(&constants));
-    runs.extend(transitions(&constants, random));
-    runs.extend(damages(&constants, random));
+    runs.extend(transitions(&constants, &mut tokens, random));
+    runs.extend(wrong_tokens(&constants, random));
+    runs.extend(mistaken_tokens(&constants, random));
+    runs.extend(damages(&constants, &mut tokens, random));
     runs
 }
 
@@ -31,9 +36,9 @@ fn blank() -> Vec<u16> {
 }
 
 /// Every address with each command that has one, on three chips.
-fn addresses(constants: &[u16], random: &mut Random) -> Vec<Run> {
-    let half_written = chips::provisioned(constants, 2, random);
-    let locked = chips::locked(constants, random);
+fn addresses(constants: &[u16], tokens: &mut RawTokens, random: &mut Random) -> Vec<Run> {
+    let half_written = chips::provisioned(constants, 2, tokens, random);
+    let locked = chips::locked(constants, tokens, random);
     // The third write clears bits of a granule's high words only.
     let makers: [fn(u32) -> Command; 6] = [
         Read,
@@ -195,8 +200,8 @@ fn life_cycles(constants: &[u16]) -> Vec<Run> {
 }
 
 /// Every state with every target. Tokens differ in a bit first, then agree.
-fn transitions(constants: &[u16], random: &mut Random) -> Vec<Run> {
-    let locked = chips::locked(constants, random);
+fn transitions(constants: &[u16], tokens: &mut RawTokens, random: &mut Random) -> Vec<Run> {
+    let locked = chips::locked(constants, tokens, random);
     let mut bits = (0..128).cycle();
     let mut runs = Vec::new();
     for state in 0..=SCRAP {
@@ -211,7 +216,7 @@ fn transitions(constants: &[u16], random: &mut Random) -> Vec<Run> {
                 refused.extend([Transition(target, 0), PowerUp]);
                 continue;
             };
-            let right = chip.right_token(asked);
+            let right = tokens.raw(chip.stored_token(asked));
             let mut commands = vec![PowerUp];
             for bit in bits.by_ref().take(3) {
                 commands.extend([Transition(target, right ^ 1 << bit), PowerUp]);
@@ -226,9 +231,59 @@ fn transitions(constants: &[u16], random: &mut Random) -> Vec<Run> {
     runs
 }
 
+/// A transition for each token: RAW_UNLOCK, TEST_UNLOCK, TEST_EXIT and RMA.
+const TOKEN_MOVES: [(u8, u8); 4] = [(0, 1), (2, 3), (1, 16), (16, 19)];
+
+/// A chip in a state, with what is stored for the four tokens, carries out
+/// commands.
+fn on_stored(constants: &[u16], stored: [u128; 4], state: u8, commands: &[Command]) -> Run {
+    let mut constants = constants.to_vec();
+    lay_raw_token(&mut constants, stored[0]);
+    let mut cells = chips::with_tokens(&constants, [stored[1], stored[2], stored[3]]);
+    chips::lay(&mut cells, &constants, state, 1);
+    Run::of(commands, &cells, &constants)
+}
+
+/// Hashes are stored. Each token is given wrongly, then rightly: its hash, its
+/// bytes or its halves in another order, the other tokens, the next number.
+fn wrong_tokens(constants: &[u16], random: &mut Random) -> Vec<Run> {
+    let raw: [u128; 4] = std::array::from_fn(|_| random.wide());
+    let mut runs = Vec::new();
+    for ((state, target), right) in TOKEN_MOVES.into_iter().zip(raw) {
+        let mut given = vec![hash(right), hash(right).swap_bytes(), hash(hash(right))];
+        given.extend([right.swap_bytes(), right.reverse_bits(), !right]);
+        given.extend([right.rotate_left(64), right.wrapping_add(1), 0, u128::MAX]);
+        given.extend(raw.into_iter().filter(|other| *other != right));
+        given.push(right);
+        let moves = given.into_iter().map(|token| Transition(target, token));
+        let commands: Vec<Command> = moves.flat_map(|step| [PowerUp, step]).collect();
+        let commands = [commands, vec![PowerUp]].concat();
+        runs.push(on_stored(constants, raw.map(hash), state, &commands));
+    }
+    runs
+}
+
+/// Something other than the hash is stored for each token, in each way, and
+/// the token is given, then its hash, then what is stored.
+fn mistaken_tokens(constants: &[u16], random: &mut Random) -> Vec<Run> {
+    let mut runs = Vec::new();
+    for (number, (state, target)) in TOKEN_MOVES.into_iter().enumerate() {
+        for mistake in MISTAKES {
+            let raw: [u128; 4] = std::array::from_fn(|_| random.wide());
+            let stored = raw.map(mistake);
+            let mut commands = vec![PowerUp];
+            for token in [raw[number], hash(raw[number]), stored[number]] {
+                commands.extend([Transition(target, token), PowerUp]);
+            }
+            runs.push(on_stored(constants, stored, state, &commands));
+        }
+    }
+    runs
+}
+
 /// A bit flipped in each word that power-up looks at.
-fn damages(constants: &[u16], random: &mut Random) -> Vec<Run> {
-    let mut cells = chips::locked(constants, random);
+fn damages(constants: &[u16], tokens: &mut RawTokens, random: &mut Random) -> Vec<Run> {
+    let mut cells = chips::locked(constants, tokens, random);
     chips::lay(&mut cells, constants, 5, 7);
     let mut runs = Vec::new();
     for word in MAP[HW_CFG].data().start..CELLS {
@@ -245,7 +300,7 @@ mod tests {
 
     #[test]
     fn writes_are_refused_in_digests_and_the_life_cycle() {
-        let constants = chips::constants(&mut Random::new(43));
+        let constants = chips::constants(&mut RawTokens::new(), &mut Random::new(43));
         let runs = digest_edges(&constants);
         assert_eq!(runs.len(), 6 * 24 * 3);
         let locked = |run: &&Run| {
@@ -259,7 +314,7 @@ mod tests {
 
     #[test]
     fn no_granule_with_a_held_word_takes_a_value() {
-        let constants = chips::constants(&mut Random::new(44));
+        let constants = chips::constants(&mut RawTokens::new(), &mut Random::new(44));
         let runs = held_words(&constants);
         assert_eq!(
             (runs.len(), granules().count()),
@@ -282,7 +337,7 @@ mod tests {
 
     #[test]
     fn no_digest_command_is_done_twice() {
-        let constants = chips::constants(&mut Random::new(45));
+        let constants = chips::constants(&mut RawTokens::new(), &mut Random::new(45));
         let hardware = &MAP[HW_CFG..LIFE_CYCLE];
         for (run, partition) in second_digests(&constants).iter().zip(hardware) {
             let printed = run.printed();
@@ -300,9 +355,9 @@ mod tests {
 
     #[test]
     fn damage_is_always_told() {
-        let mut random = Random::new(41);
-        let constants = chips::constants(&mut random);
-        for run in damages(&constants, &mut random) {
+        let (mut tokens, mut random) = (RawTokens::new(), Random::new(41));
+        let constants = chips::constants(&mut tokens, &mut random);
+        for run in damages(&constants, &mut tokens, &mut random) {
             let printed = run.printed();
             assert!(
                 printed.starts_with("07 06") || printed.starts_with("07 07"),
@@ -311,9 +366,53 @@ mod tests {
         }
     }
 
+    /// The codes of the lines of transitions, in their order.
+    fn codes_of_transitions(run: &Run) -> Vec<String> {
+        let printed = run.printed();
+        let lines = printed.lines().filter(|line| line.starts_with("06"));
+        lines.map(|line| line[3..5].to_string()).collect()
+    }
+
+    #[test]
+    fn every_state_and_target_is_tried_with_the_right_token() {
+        let (mut tokens, mut random) = (RawTokens::new(), Random::new(46));
+        let constants = chips::constants(&mut tokens, &mut random);
+        let runs = transitions(&constants, &mut tokens, &mut random);
+        let by_token = |run: &&Run| codes_of_transitions(run).join(" ") == "23 23 23 00";
+        // The pairs that ask for RAW_UNLOCK, TEST_UNLOCK, TEST_EXIT and RMA.
+        assert_eq!(runs.iter().filter(by_token).count(), 1 + 28 + 45 + 2);
+    }
+
+    #[test]
+    fn a_token_is_right_by_its_hash_alone() {
+        let (mut tokens, mut random) = (RawTokens::new(), Random::new(47));
+        let constants = chips::constants(&mut tokens, &mut random);
+        for run in wrong_tokens(&constants, &mut random) {
+            let codes = codes_of_transitions(&run);
+            let (last, before) = codes.split_last().unwrap();
+            assert_eq!((last.as_str(), before.len()), ("00", 13));
+            assert!(before.iter().all(|code| code == "23"), "{codes:?}");
+        }
+    }
+
+    /// The hash, given as a token, is right where it was hashed once more.
+    #[test]
+    fn a_token_is_wrong_where_its_hash_is_not_stored() {
+        let (mut tokens, mut random) = (RawTokens::new(), Random::new(48));
+        let constants = chips::constants(&mut tokens, &mut random);
+        let runs = mistaken_tokens(&constants, &mut random);
+        assert_eq!(runs.len(), 4 * MISTAKES.len());
+        for (i, run) in runs.iter().enumerate() {
+            let codes = codes_of_transitions(run);
+            assert_eq!(codes[0], "23");
+            let twice = i % MISTAKES.len() == 3;
+            assert_eq!(codes[1] == "00", twice, "{i}: {codes:?}");
+        }
+    }
+
     #[test]
     fn broken_constants_are_always_told() {
-        let constants = chips::constants(&mut Random::new(42));
+        let constants = chips::constants(&mut RawTokens::new(), &mut Random::new(42));
         let runs = broken_constants(&constants);
         assert_eq!(runs.len(), 44 * 3);
         for run in runs {

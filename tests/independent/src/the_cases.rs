@@ -1,10 +1,12 @@
-//! The 14 cases of the paper, those of requests Two, Three and Five, and rules
-//! about the record beside them.
+//! The 14 cases of the paper, those of requests Two to Five, and rules about
+//! the record beside them.
 
-use crate::constants::{example, raw_token};
+use crate::chips;
+use crate::constants::{example, lay_raw_token, EXAMPLE_HASH, EXAMPLE_TOKEN};
 use crate::life_cycle::{counter_words, state_words};
 use crate::map::CELLS;
 use crate::model::{Answer, Chip, Command, Phase, Session};
+use crate::token::hash;
 use Command::{Digest, FrontRead, PowerUp, Read, ReadLock, Transition, Write};
 
 const COUNTERS_AT: usize = 0x328 / 2;
@@ -324,7 +326,7 @@ fn case_08_read_lock() {
 #[test]
 fn case_09_raw_unlock() {
     let mut chip = ready();
-    expect(&mut chip, &[(Transition(1, raw_token(&example())), 0, 0)]);
+    expect(&mut chip, &[(Transition(1, EXAMPLE_TOKEN), 0, 0)]);
     assert_eq!(chip.session.phase, Phase::Inert);
     let others = [
         Read(0),
@@ -342,11 +344,10 @@ fn case_09_raw_unlock() {
 
 #[test]
 fn case_10_wrong_token() {
-    let token = raw_token(&example()) ^ 1 << 127;
-    expect(
-        &mut ready(),
-        &[(Transition(1, token), 0x23, 0), (PowerUp, 0, 256)],
-    );
+    for token in [EXAMPLE_TOKEN ^ 1 << 127, EXAMPLE_HASH, 0] {
+        let steps = [(Transition(1, token), 0x23, 0), (PowerUp, 0, 256)];
+        expect(&mut ready(), &steps);
+    }
 }
 
 #[test]
@@ -368,11 +369,18 @@ fn case_12_strokes_used() {
 
 #[test]
 fn case_13_token_partition_open() {
-    let mut chip = powered(at(2, 2));
-    expect(
-        &mut chip,
-        &[(Transition(3, 0), 0x22, 0), (PowerUp, 0, 3 * 256 + 2)],
-    );
+    for token in [0, EXAMPLE_TOKEN] {
+        let mut chip = powered(at(2, 2));
+        let (low, high) = (EXAMPLE_HASH as u64, (EXAMPLE_HASH >> 64) as u64);
+        let steps = [
+            (Write(0x250, low), 0, 0),
+            (Write(0x258, high), 0, 0),
+            (PowerUp, 0, 2 * 256 + 2),
+            (Transition(3, token), 0x22, 0),
+            (PowerUp, 0, 3 * 256 + 2),
+        ];
+        expect(&mut chip, &steps);
+    }
 }
 
 #[test]
@@ -392,7 +400,7 @@ fn case_14_front_read_is_sensed() {
 #[test]
 fn secrets_lock_and_open_by_token() {
     let mut chip = powered(at(2, 2));
-    let (low, high) = (0x1122_3344_5566_7788, 0x99aa_bbcc_ddee_ff00);
+    let (low, high) = (EXAMPLE_HASH as u64, (EXAMPLE_HASH >> 64) as u64);
     expect(
         &mut chip,
         &[(Write(0x250, low), 0, 0), (Write(0x25f, high), 0, 0)],
@@ -411,15 +419,99 @@ fn secrets_lock_and_open_by_token() {
             (Read(0x275), 0, digest),
         ],
     );
-    let token = u128::from(high) << 64 | u128::from(low);
-    expect(
-        &mut chip,
-        &[(Transition(3, token + 1), 0x23, 0), (PowerUp, 0, 0x302)],
-    );
-    expect(
-        &mut chip,
-        &[(Transition(3, token), 0, 0), (PowerUp, 0, 0x403)],
-    );
+    let steps = [
+        (Transition(3, EXAMPLE_TOKEN + 1), 0x23, 0),
+        (PowerUp, 0, 0x302),
+        (Transition(3, EXAMPLE_HASH), 0x23, 0),
+        (PowerUp, 0, 0x402),
+        (Transition(3, EXAMPLE_TOKEN), 0, 0),
+        (PowerUp, 0, 0x503),
+    ];
+    expect(&mut chip, &steps);
+}
+
+/// A transition for each token: its state, its target and the raw token.
+const MOVES: [(u8, u8, u128); 4] = [
+    (0, 1, 0x0f1e_2d3c_4b5a_6978_8796_a5b4_c3d2_e1f0),
+    (2, 3, 0x1111_2222_3333_4444_5555_6666_7777_8888),
+    (1, 16, 0x9999_aaaa_bbbb_cccc_dddd_eeee_ffff_0001),
+    (17, 19, 0x0123_4567_89ab_cdef_fedc_ba98_7654_3210),
+];
+
+/// A chip powered up in a state, with the hashes of the four tokens stored and
+/// five strokes spent.
+fn with_hashes(state: u8) -> Chip {
+    let [raw, unlock, exit, rma] = MOVES.map(|(_, _, token)| hash(token));
+    let mut constants = example();
+    lay_raw_token(&mut constants, raw);
+    let mut cells = chips::with_tokens(&constants, [unlock, exit, rma]);
+    chips::lay(&mut cells, &constants, state, 5);
+    powered(Chip::new(cells, constants))
+}
+
+#[test]
+fn each_token_is_right_by_its_hash() {
+    for (state, target, token) in MOVES {
+        let mut chip = with_hashes(state);
+        let woken = 6 * 256 + u64::from(target);
+        let steps = [(Transition(target, token), 0, 0), (PowerUp, 0, woken)];
+        expect(&mut chip, &steps);
+    }
+}
+
+#[test]
+fn the_stroke_is_spent_though_the_token_is_wrong() {
+    for (state, target, right) in MOVES {
+        let others = MOVES.map(|(_, _, token)| token);
+        let other = others.into_iter().filter(|token| *token != right);
+        let wrong = [
+            hash(right),
+            hash(hash(right)),
+            right.swap_bytes(),
+            right ^ 1,
+            0,
+        ];
+        for token in other.chain(wrong) {
+            let mut chip = with_hashes(state);
+            let mut cells = chip.cells.clone();
+            cells[COUNTERS_AT..COUNTERS_AT + 24].copy_from_slice(&counter_words(&example(), 6));
+            expect(&mut chip, &[(Transition(target, token), 0x23, 0)]);
+            assert_eq!(chip.cells, cells);
+            expect(&mut chip, &[(PowerUp, 0, 6 * 256 + u64::from(state))]);
+        }
+    }
+}
+
+#[test]
+fn the_right_token_comes_too_late_after_24_strokes() {
+    let mut chip = ready();
+    for count in 1..=24 {
+        expect(&mut chip, &[(Transition(1, EXAMPLE_HASH), 0x23, 0)]);
+        expect(&mut chip, &[(PowerUp, 0, 256 * count)]);
+    }
+    expect(&mut chip, &[(Transition(1, EXAMPLE_TOKEN), 0x20, 0)]);
+}
+
+#[test]
+fn a_token_is_compared_with_the_copy() {
+    for (state, target, token) in &MOVES[1..] {
+        let mut chip = with_hashes(*state);
+        chip.cells[0x250 / 2..0x328 / 2].fill(0xffff);
+        expect(&mut chip, &[(Transition(*target, *token), 0, 0)]);
+        let mut chip = with_hashes(*state);
+        chip.copy[0x250 / 2..0x328 / 2].fill(0);
+        expect(&mut chip, &[(Transition(*target, *token), 0x23, 0)]);
+    }
+}
+
+#[test]
+fn no_token_is_looked_at_where_none_is_asked_for() {
+    for (state, target) in [(1, 2), (3, 14), (15, 19), (16, 20)] {
+        for token in [0, u128::MAX, MOVES[1].2, hash(MOVES[1].2)] {
+            let mut chip = with_hashes(state);
+            expect(&mut chip, &[(Transition(target, token), 0, 0)]);
+        }
+    }
 }
 
 #[test]

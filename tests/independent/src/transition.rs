@@ -4,12 +4,13 @@ use crate::constants::{self, COUNTERS};
 use crate::life_cycle::{self, Token, MOST_STROKES, SCRAP};
 use crate::map::{LIFE_CYCLE, MAP, SECRET0, SECRET2};
 use crate::model::{Answer, Chip, Phase, NOT_READY};
-use crate::words;
+use crate::{token, words};
 
-/// Partition of each stored token and its byte address.
-const TEST_UNLOCK: (usize, usize) = (SECRET0, 0x250);
-const TEST_EXIT: (usize, usize) = (SECRET0, 0x260);
-const RMA_TOKEN: (usize, usize) = (SECRET2, 0x2D0);
+/// Partition of each stored token's hash and its byte address.
+const TEST_UNLOCK: (usize, u32) = (SECRET0, 0x250);
+const TEST_EXIT: (usize, u32) = (SECRET0, 0x260);
+const RMA_TOKEN: (usize, u32) = (SECRET2, 0x2D0);
+pub const STORED_TOKENS: [(usize, u32); 3] = [TEST_UNLOCK, TEST_EXIT, RMA_TOKEN];
 
 const WRONG_TARGET: Answer = Answer::refusal(0x11);
 const NO_STROKES: Answer = Answer::refusal(0x20);
@@ -61,18 +62,18 @@ impl Chip {
     }
 
     fn judge_token(&self, asked: Token, given: u128) -> Option<Answer> {
-        let locked = |(partition, _): (usize, usize)| self.session.digests[partition] != 0;
+        let locked = |(partition, _): (usize, u32)| self.session.digests[partition] != 0;
         if !stored_at(asked).is_none_or(locked) {
             return Some(TOKEN_NOT_LOCKED);
         }
-        let differs = asked != Token::None && given != self.right_token(asked);
+        let differs = asked != Token::None && token::hash(given) != self.stored_token(asked);
         differs.then_some(TOKEN_DIFFERS)
     }
 
-    /// The token that a transition asking for `asked` is given rightly.
-    pub fn right_token(&self, asked: Token) -> u128 {
+    /// What the hash of a token is compared with where `asked` is asked for.
+    pub fn stored_token(&self, asked: Token) -> u128 {
         match (stored_at(asked), asked) {
-            (Some((_, address)), _) => words::wide_number(&self.copy[address / 2..]),
+            (Some((_, address)), _) => words::wide_number(&self.copy[address as usize / 2..]),
             (None, Token::Raw) => constants::raw_token(&self.constants),
             (None, _) => 0,
         }
@@ -80,7 +81,7 @@ impl Chip {
 }
 
 /// Partition and address of a token held in a secret partition.
-fn stored_at(asked: Token) -> Option<(usize, usize)> {
+fn stored_at(asked: Token) -> Option<(usize, u32)> {
     match asked {
         Token::TestUnlock => Some(TEST_UNLOCK),
         Token::TestExit => Some(TEST_EXIT),
