@@ -1,10 +1,10 @@
 -- Laws of bits and of the library's or, and and exclusive or. The idea: shift to the bit, then look at the lowest one.
 use mathlib.Core.Path.{_≡_, refl, sym, ap, ap₂, _∙_}
-use Prim.Native.Nat.{ℕ, zero, suc, _+_, _*_, _/_, _%_, _^_, _≤_, _<_, max}
+use Prim.Native.Nat.{ℕ, zero, suc, _+_, _*_, _/_, _%_, _^_, _≤_, _<_, min, max}
 use native.Mathlib.Nat.{mod-lt, div-add-mod', pow-suc}
 use native.Mathlib.Omega.{arith}
 use lib.Arith.{bin-ind}
-use lib.Bits.{bitOr, bitXor, differ, or-step, or-shr, or-zero-l, xor-step, xor-self, xor-shr, xor-mod}
+use lib.Bits.{bitAnd, bitOr, bitXor, differ, and-step, and-shr, or-step, or-shr, or-zero-l, xor-step, xor-self, xor-shr, xor-mod}
 use lib.Pow.{pow-pos, shr-shr}
 use Rattle.basics.specs.Digits.{bit}
 
@@ -13,6 +13,15 @@ bit-or a b k = rw (or-shr a b k, or-step (a / 2 ^ k) (b / 2 ^ k)) (omega arith)
 
 pub bit-xor : (a b k : ℕ) → bit (bitXor a b) k ≡ bitXor (bit a k) (bit b k)
 bit-xor a b k = ap (λ (x : ℕ). x % 2) (xor-shr a b k) ∙ xor-mod (a / 2 ^ k) (b / 2 ^ k) 1
+
+-- the and of two bits is their product
+pub bit-and : (a b k : ℕ) → bit (bitAnd a b) k ≡ bit a k * bit b k
+bit-and a b k = rw (and-shr a b k, and-step (a / 2 ^ k) (b / 2 ^ k)) (low-bit _ _ _ (mod-lt (a / 2 ^ k) (pow-pos 1)) (mod-lt (b / 2 ^ k) (pow-pos 1)))
+  where
+    low-bit : (n x y : ℕ) → x < 2 → y < 2 → (n * 2 + min x y) % 2 ≡ x * y
+    low-bit n zero y h l = omega arith
+    low-bit n (suc zero) y h l = omega arith
+    low-bit n (suc (suc x)) y h l = absurd (omega arith)
 
 -- bit i of a half is bit i + 1 of the whole
 pub bit-half : (x i : ℕ) → bit (x / 2) i ≡ bit x (suc i)

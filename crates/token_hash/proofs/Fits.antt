@@ -1,9 +1,11 @@
--- A hash is a number of 128 bits.
+-- A hash is a number of 128 bits: it has sixteen bytes.
 use Prim.Native.Nat.{ℕ, _^_, _<_}
-use native.Mathlib.Nat.{mod-lt}
-use lib.Pow.{pow-pos}
-use Rattle.token_hash.specs.TokenHash.{tokenHash}
+use lib.Dec.{lit<}
+use lib.ListN.{getD}
+use Rattle.basics.proofs.Digits.{number-lt}
+use Rattle.cshake.proofs.Outputs.{cshake-bytes}
+use Rattle.token_hash.specs.TokenHash.{numberOfBytes, tokenHash}
 
 pub hash-lt : (token : ℕ) → tokenHash token < 2 ^ 128
-unfolding tokenHash
-hash-lt token = mod-lt token (pow-pos 128)
+unfolding tokenHash numberOfBytes
+hash-lt token = number-lt 256 (lit< tt) 16 _ (cshake-bytes _ _ _ _)

@@ -1,0 +1,6 @@
+pub mod Turning
+pub mod Lanes
+pub mod Rows
+pub mod Steps
+pub mod Lengths
+pub mod Examples

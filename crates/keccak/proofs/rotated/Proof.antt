@@ -1,0 +1,17 @@
+-- What the two shifts leave is the lane turned.
+use borrow.Author.Needs.{needs}
+use Rattle.keccak.proofs.Lanes.{own-bits, turned-bits, is-lane}
+use Rattle.keccak.proofs.rotated.Statement.{statement}
+use Rattle.keccak.proofs.rotated.Tie as tie
+
+returns : tie.Need-returns
+returns c = is-lane (turned-bits (own-bits (c .args .lane) (c .fits .lane .fits)) (c .args .n) (c .pre))
+
+pub rotated-spec : {M : Type 1} → statement M
+rotated-spec =
+    tie.close
+    (tie.spec
+    (λ c. search needs)
+    (λ c. search needs)
+    (λ c. search needs)
+    returns)

@@ -1,0 +1,4 @@
+pub mod State
+pub mod StepMappings
+pub mod Permutation
+pub mod Tables

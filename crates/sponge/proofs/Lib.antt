@@ -1,0 +1,11 @@
+pub mod Turning
+pub mod Taking
+pub mod Shifting
+pub mod Xor
+pub mod Bytes
+pub mod Outputs
+pub mod Lanes
+pub mod Blocks
+pub mod LastBlock
+pub mod Streams
+pub mod Padding

@@ -1,0 +1,3 @@
+pub mod Sponge
+pub mod Streaming
+pub mod PaddingBits
