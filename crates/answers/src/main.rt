@@ -1,6 +1,8 @@
 // Answers cases from standard input, each by a function of the libraries, for a program written apart to compare. A case is 256 bytes:
 // operation, a, b, c, n and m of 8 bytes each, 16 bytes that say nothing, 96 words of 2 bytes. An answer is 128 bytes: a result of 8, 24
 // zeros, 48 words. All is little-endian. tests/independent/README.md lists the operations.
+mod hashes;
+
 use libc::STDIN_FILENO;
 use libc::STDOUT_FILENO;
 use words::Programmed;
@@ -9,9 +11,9 @@ ghost use mathlib.Core.Path.{_≡_};
 ghost use Prim.Native.Nat.{_≤_, _<_};
 ghost use lib.ListN.{length};
 
-struct Answer {
-    result: u64,
-    words: [u16; 48],
+pub(crate) struct Answer {
+    pub(crate) result: u64,
+    pub(crate) words: [u16; 48],
 }
 
 // An answer without words.
@@ -40,14 +42,14 @@ fn half_at(case: &[u8; 256], at: usize) -> u64
 }
 
 // The number of the eight bytes from `at` on.
-fn number_at(case: &[u8; 256], at: usize) -> u64
+pub(crate) fn number_at(case: &[u8; 256], at: usize) -> u64
     requires { ⌜ at ≤ 248 ⌝ }
 {
     half_at(case, at) + 4294967296 * half_at(case, at + 4)
 }
 
 // The number of two bytes.
-fn word(low: u8, high: u8) -> u16 {
+pub(crate) fn word(low: u8, high: u8) -> u16 {
     (low as u16) + 256 * (high as u16)
 }
 
@@ -61,7 +63,7 @@ fn words_of(case: &[u8; 256]) -> [u16; 96]
     words
 }
 
-fn at_most(n: u64, most: usize) -> usize
+pub(crate) fn at_most(n: u64, most: usize) -> usize
     ensures { λ r. ⌜ r ≤ most ⌝ }
 {
     if n < most as u64 { n as usize } else { most }
@@ -160,6 +162,9 @@ fn answer_to(case: &[u8; 256]) -> Answer {
         5 => split(a),
         6 => number(joined(case, n)),
         7 => number(chain(a, b, c, n)),
+        8 => hashes::cshake128(case, a, b, n, m),
+        9 => hashes::permutation(case, a, b, n),
+        10 => hashes::token(a, b, n),
         _ => number(0),
     }
 }

@@ -1,0 +1,121 @@
+// Answers to the cases about hashes: cSHAKE128, its permutation, and tokens.
+use crate::Answer;
+use crate::at_most;
+use crate::number_at;
+use crate::word;
+ghost use mathlib.Core.Path.{_≡_};
+ghost use Prim.Native.Nat.{_≤_};
+ghost use lib.ListN.{length};
+
+// Where the 192 bytes of a case start.
+const DATA: usize = 64;
+
+// Bytes that go round the 192 bytes of a case.
+fn rounds_of(case: &[u8; 256]) -> [u8; 1024]
+    ensures { λ r. ⌜ length r ≡ 1024 ⌝ }
+{
+    let mut out = [0; 1024];
+    for i in 0..1024 {
+        out[i] = case[DATA + i % 192];
+    }
+    out
+}
+
+// A byte, or zero past the last.
+fn byte_at(bytes: &[u8], i: usize) -> u8 {
+    if i < bytes.len() { bytes[i] } else { 0 }
+}
+
+// The words of the last 96 bytes, or of all where they are fewer, and zeros.
+fn last_words(bytes: &[u8]) -> [u16; 48]
+    ensures { λ r. ⌜ length r ≡ 48 ⌝ }
+{
+    let n = bytes.len();
+    let start = if 96 < n { n - 96 } else { 0 };
+    let rest = &bytes[start..];
+    let mut out = [0; 48];
+    for i in 0..48 {
+        out[i] = word(byte_at(rest, 2 * i), byte_at(rest, 2 * i + 1));
+    }
+    out
+}
+
+// cSHAKE128 with the first a bytes as the name, the next b as the customization, a message of n bytes and an output of m.
+pub(crate) fn cshake128(case: &[u8; 256], a: u64, b: u64, n: u64, m: u64) -> Answer {
+    let message = rounds_of(case);
+    let middle = DATA + at_most(a, 192);
+    let end = middle + at_most(b, 256 - middle);
+    let size = at_most(n, 1024);
+    let count = at_most(m, 1024);
+    let mut out = [0u8; 1024];
+    cshake::cshake128(
+        &case[DATA..middle],
+        &case[middle..end],
+        &message[..size],
+        &mut out[..count],
+    );
+    Answer {
+        result: 0,
+        words: last_words(&out[..count]),
+    }
+}
+
+// 24 lanes from a case, and the last.
+fn lanes_of(case: &[u8; 256], last: u64) -> [u64; 25]
+    ensures { λ r. ⌜ length r ≡ 25 ⌝ }
+{
+    let mut lanes = [last; 25];
+    for k in 0..24 {
+        lanes[k] = number_at(case, DATA + 8 * k);
+    }
+    lanes
+}
+
+// The permutation n times over.
+fn permuted(lanes: [u64; 25], n: usize) -> [u64; 25] {
+    let mut out = lanes;
+    for i in 0..n {
+        let next = keccak::permuted(out);
+        out = next;
+    }
+    out
+}
+
+// The words of 12 lanes from lane b on.
+fn words_from(lanes: &[u64; 25], b: usize) -> [u16; 48]
+    requires { ⌜ b ≤ 13 ⌝ }
+    ensures { λ r. ⌜ length r ≡ 48 ⌝ }
+{
+    let mut out = [0; 48];
+    for i in 0..48 {
+        out[i] = ((lanes[b + i / 4] >> (16 * (i % 4))) % 65536) as u16;
+    }
+    out
+}
+
+// Keccak-f[1600] n times over, and 12 lanes of the state from lane b on.
+pub(crate) fn permutation(case: &[u8; 256], a: u64, b: u64, n: u64) -> Answer {
+    let lanes = permuted(lanes_of(case, a), at_most(n, 64));
+    Answer {
+        result: 0,
+        words: words_from(&lanes, at_most(b, 13)),
+    }
+}
+
+// The token hashed n times over: each hash is the next token.
+pub(crate) fn token(high: u64, low: u64, n: u64) -> Answer {
+    let mut token = token_hash::Hash { high, low };
+    let mut left = n;
+    while 0 < left {
+        token = token_hash::hash_of(token.high, token.low);
+        left -= 1;
+    }
+    let upper = words::split(token.high);
+    let lower = words::split(token.low);
+    let mut words = [0; 48];
+    for i in 0..4 {
+        words[i] = lower[i];
+        words[4 + i] = upper[i];
+    }
+    Answer { result: 0, words }
+}
