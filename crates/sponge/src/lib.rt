@@ -3,7 +3,7 @@ ghost use mathlib.Core.Path.{_≡_};
 ghost use Prim.Native.Nat.{_<_};
 ghost use lib.ListN.{length};
 ghost use Rattle.sponge.specs.Sponge.{byteAt, squeezed};
-ghost use Rattle.sponge.specs.Streaming.{rate, fresh, withByte, turned, taken, takenAll, filled, finished};
+ghost use Rattle.sponge.specs.Streaming.{rate, spongeOf, fresh, withByte, turned, taken, takenAll, filled, finished};
 
 const RATE: usize = 168;
 
@@ -19,14 +19,33 @@ fn wide(x: u8) -> u64
     x as u64
 }
 
-// A byte added to byte i of the lanes.
-fn with_byte(lanes: [u64; 25], i: usize, byte: u8) -> [u64; 25]
+// Adds a byte to byte i of the lanes.
+fn add_byte(lanes: &mut [u64; 25], i: usize, byte: u8)
     requires { ⌜ i < 200 ⌝ }
-    ensures { λ r. ⌜ r ≡ withByte «lanes» i byte ⌝ }
+    ensures { λ _. ⌜ now (lanes .exit) ≡ withByte (now (lanes .entry)) i byte ⌝ }
 {
-    let mut out = lanes;
-    out[i / 8] ^= wide(byte) << (8 * (i % 8));
-    out
+    lanes[i / 8] ^= wide(byte) << (8 * (i % 8));
+}
+
+// Permutes the lanes of a full block. The place of the next byte.
+fn turn(lanes: &mut [u64; 25], at: usize) -> usize
+    ensures { λ r. ⌜ spongeOf (now (lanes .exit)) r ≡ turned (spongeOf (now (lanes .entry)) at) ⌝ }
+{
+    if at < RATE {
+        return at;
+    }
+    let full = *lanes;
+    *lanes = keccak::permuted(full);
+    0
+}
+
+// Takes one byte. The place after it.
+fn take_byte(lanes: &mut [u64; 25], at: usize, byte: u8) -> usize
+    ensures { λ r. ⌜ spongeOf (now (lanes .exit)) r ≡ taken (spongeOf (now (lanes .entry)) at) byte ⌝ }
+{
+    let place = turn(lanes, at);
+    add_byte(lanes, place, byte);
+    place + 1
 }
 
 impl Sponge {
@@ -40,42 +59,25 @@ impl Sponge {
         }
     }
 
-    // A full block is permuted.
-    fn turned(self) -> Sponge
-        ensures { λ r. ⌜ r ≡ turned self ⌝ }
-    {
-        if self.at < RATE {
-            return self;
-        }
-        let lanes = self.lanes;
-        Sponge {
-            lanes: keccak::permuted(lanes),
-            at: 0,
-        }
-    }
-
     // Takes one byte.
     pub fn take(self, byte: u8) -> Sponge
         ensures { λ r. ⌜ r ≡ taken self byte ⌝ }
     {
-        let s = self.turned();
-        let lanes = s.lanes;
-        Sponge {
-            lanes: with_byte(lanes, s.at, byte),
-            at: s.at + 1,
-        }
+        let mut lanes = self.lanes;
+        let at = take_byte(&mut lanes, self.at, byte);
+        Sponge { lanes, at }
     }
 
     // Takes each byte.
     pub fn take_all(self, bytes: &[u8]) -> Sponge
         ensures { λ r. ⌜ r ≡ takenAll self (now (bytes .entry)) ⌝ }
     {
-        let mut s = self;
+        let mut lanes = self.lanes;
+        let mut at = self.at;
         for i in 0..bytes.len() {
-            let next = s.take(bytes[i]);
-            s = next;
+            at = take_byte(&mut lanes, at, bytes[i]);
         }
-        s
+        Sponge { lanes, at }
     }
 
     // Zeros to the end of the block in hand: they change no lane.
@@ -93,9 +95,11 @@ impl Sponge {
     pub fn finish(self, suffix: u8) -> [u64; 25]
         ensures { λ r. ⌜ r ≡ finished self suffix ⌝ }
     {
-        let s = self.turned();
-        let lanes = s.lanes;
-        keccak::permuted(with_byte(with_byte(lanes, s.at, suffix), RATE - 1, 0x80))
+        let mut lanes = self.lanes;
+        let place = turn(&mut lanes, self.at);
+        add_byte(&mut lanes, place, suffix);
+        add_byte(&mut lanes, RATE - 1, 0x80);
+        keccak::permuted(lanes)
     }
 }
 

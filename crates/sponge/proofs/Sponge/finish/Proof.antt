@@ -7,22 +7,25 @@ use Rattle.sponge.proofs.Turning.{turned-room, finished-steps}
 use Rattle.sponge.proofs.Sponge.finish.Statement.{statement}
 use Rattle.sponge.proofs.Sponge.finish.Tie as tie
 
-with-byte-requires : tie.Need-with-byte-requires
-with-byte-requires c κs = omega (arith, ap (λ (s : Sponge). s .at) (c .before .turned .ensures), turned-room (c .before .before .args .self))
+add-byte-requires : tie.Need-add-byte-requires
+add-byte-requires c κs =
+    let t = c .before in
+    omega (arith, ap (λ (s : Sponge). s .at) (t .turn .ensures), turned-room (t .before .before .before .args .self))
 
 returns : tie.Need-returns
 returns c =
-    let t = c .before .before .before .before in
-    let o = t .before .args in
-    c .permuted .ensures
-    ∙ finished-steps (o .self) (o .suffix) (t .turned .ensures) (c .before .before .with-byte .ensures) (c .before .with-byte2 .ensures)
+    let last = c .before in
+    let first = last .before .before in
+    let t = first .before .before in
+    let o = t .before .before .before .args in
+    c .permuted .ensures ∙ finished-steps (o .self) (o .suffix) (t .turn .ensures) (first .add-byte .ensures) (last .add-byte2 .ensures)
 
 pub finish-spec : {M : Type 1} → statement M
 finish-spec =
     tie.close
     (tie.spec
     (λ c κs. search needs)
-    with-byte-requires
+    add-byte-requires
     (λ c. search needs)
     (λ c κs. search needs)
     (λ c κs. search needs)
