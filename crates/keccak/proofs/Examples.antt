@@ -8,7 +8,6 @@ use Rattle.basics.specs.Choice.{if_then_else_}
 use Rattle.basics.specs.Range.{listed, sum}
 use Rattle.keccak.specs.State.{stateOf}
 use Rattle.keccak.specs.StepMappings.{theta, walk, offset, rho, pi, chi, turned, register, rc, roundConstant, iota}
-use Rattle.keccak.specs.Permutation.{round, rounds}
 
 -- "Table 2: Offsets of ρ", before they are reduced modulo the lane's bits
 pub table-two : (offset 0 0 ≡ 0) × (offset 1 0 ≡ 1) × (offset 2 0 ≡ 190) × (offset 0 1 ≡ 36) × (offset 3 2 ≡ 153) × (offset 4 4 ≡ 78)
@@ -37,8 +36,3 @@ pub steps : (laneAfter rho (λ k. 1) 2 ≡ 0x4000_0000_0000_0000)
     × (laneAfter (iota 1) (λ k. 0) 1 ≡ 0)
 unfolding if_then_else_ listed sum stateOf walk offset rho pi chi turned register rc roundConstant iota
 steps = (refl, refl, refl, refl, refl)
-
--- the first lane after three rounds from the state of zeros; all 24 are more than the checker computes in one declaration
-pub three-rounds : laneAfter (rounds 3) (λ k. 0) 0 ≡ 0x8030_5000_01e0_840c
-unfolding if_then_else_ listed sum stateOf theta walk offset rho pi chi turned register rc roundConstant iota round rounds
-three-rounds = refl
