@@ -3,6 +3,7 @@ use crate::Answer;
 use crate::at_most;
 use crate::number_at;
 use crate::word;
+use token_hash::Hash;
 ghost use mathlib.Core.Path.{_≡_};
 ghost use Prim.Native.Nat.{_≤_};
 ghost use lib.ListN.{length};
@@ -21,42 +22,38 @@ fn rounds_of(case: &[u8; 256]) -> [u8; 1024]
     out
 }
 
-// A byte, or zero past the last.
-fn byte_at(bytes: &[u8], i: usize) -> u8 {
-    if i < bytes.len() { bytes[i] } else { 0 }
-}
-
-// The words of the last 96 bytes, or of all where they are fewer, and zeros.
-fn last_words(bytes: &[u8]) -> [u16; 48]
+// The words of 96 bytes from `start` on.
+fn words_at(bytes: &[u8; 1024], start: usize) -> [u16; 48]
+    requires { ⌜ start ≤ 928 ⌝ }
     ensures { λ r. ⌜ length r ≡ 48 ⌝ }
 {
-    let n = bytes.len();
-    let start = if 96 < n { n - 96 } else { 0 };
-    let rest = &bytes[start..];
     let mut out = [0; 48];
     for i in 0..48 {
-        out[i] = word(byte_at(rest, 2 * i), byte_at(rest, 2 * i + 1));
+        out[i] = word(bytes[start + 2 * i], bytes[start + 2 * i + 1]);
     }
     out
 }
 
-// cSHAKE128 with the first a bytes as the name, the next b as the customization, a message of n bytes and an output of m.
+// cSHAKE128 with the first a bytes as the name, the next b as the customization, a message of n bytes and an output of m, of which the last 96
+// bytes are answered. Where it has fewer, the zeros after it are answered too.
 pub(crate) fn cshake128(case: &[u8; 256], a: u64, b: u64, n: u64, m: u64) -> Answer {
+    let whole = &case[..];
     let message = rounds_of(case);
     let middle = DATA + at_most(a, 192);
     let end = middle + at_most(b, 256 - middle);
     let size = at_most(n, 1024);
     let count = at_most(m, 1024);
-    let mut out = [0u8; 1024];
+    let mut out = [0; 1024];
     cshake::cshake128(
-        &case[DATA..middle],
-        &case[middle..end],
+        &whole[DATA..middle],
+        &whole[middle..end],
         &message[..size],
         &mut out[..count],
     );
+    let start = if 96 < count { count - 96 } else { 0 };
     Answer {
         result: 0,
-        words: last_words(&out[..count]),
+        words: words_at(&out, start),
     }
 }
 
@@ -103,19 +100,23 @@ pub(crate) fn permutation(case: &[u8; 256], a: u64, b: u64, n: u64) -> Answer {
 }
 
 // The token hashed n times over: each hash is the next token.
-pub(crate) fn token(high: u64, low: u64, n: u64) -> Answer {
-    let mut token = token_hash::Hash { high, low };
+fn hashed(high: u64, low: u64, n: u64) -> Hash {
+    let mut token = Hash { high, low };
     let mut left = n;
     while 0 < left {
         token = token_hash::hash_of(token.high, token.low);
         left -= 1;
     }
-    let upper = words::split(token.high);
-    let lower = words::split(token.low);
-    let mut words = [0; 48];
-    for i in 0..4 {
-        words[i] = lower[i];
-        words[4 + i] = upper[i];
+    token
+}
+
+pub(crate) fn token(high: u64, low: u64, n: u64) -> Answer {
+    let token = hashed(high, low, n);
+    let mut lanes = [0; 25];
+    lanes[0] = token.low;
+    lanes[1] = token.high;
+    Answer {
+        result: 0,
+        words: words_from(&lanes, 0),
     }
-    Answer { result: 0, words }
 }
