@@ -23,5 +23,4 @@ pub mod Everything
 pub mod LifeCyclePlace
 pub mod Cases
 pub mod ToyChip
-pub mod Examples
 pub mod Runs

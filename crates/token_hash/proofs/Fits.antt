@@ -1,7 +1,6 @@
 -- A hash is a number of 128 bits: it has sixteen bytes.
 use Prim.Native.Nat.{ℕ, _^_, _<_}
 use lib.Dec.{lit<}
-use lib.ListN.{getD}
 use Rattle.basics.proofs.Digits.{number-lt}
 use Rattle.cshake.proofs.Outputs.{cshake-bytes}
 use Rattle.token_hash.specs.TokenHash.{numberOfBytes, tokenHash}
