@@ -9,3 +9,4 @@ pub mod Blocks
 pub mod LastBlock
 pub mod Streams
 pub mod Padding
+pub mod Examples
