@@ -4,6 +4,7 @@ use mathlib.Core.Bool.{true}
 use Rattle.partitions.specs.Map.{Map}
 use Rattle.partitions.specs.Fitness.{fit}
 use Rattle.model.specs.Lent.{Primitives}
+use Rattle.model.specs.Step.{after}
 use Rattle.model.specs.Terms.{Cipher}
 use Rattle.model.specs.Refusals.{Refusals}
 use Rattle.model.specs.Demand3.{Demand3}
@@ -12,6 +13,7 @@ use Rattle.model.proofs.Refusals.{commands-refuse, power-ups-refuse, tr
 use Rattle.model.proofs.Deaths.{deaths-told}
 use Rattle.model.proofs.Steps.{bits-stay}
 use Rattle.model.proofs.Locks.{locked-since}
+use Rattle.model.proofs.Asking.{transition-shows}
 use Rattle.model.proofs.NamedWords.{refused-named, locked-denied}
 use Rattle.model.proofs.SecondBurns.{found-blank, no-second-burn, granule-final}
 use Rattle.model.proofs.Writes.{write-taken, reads-back, reads-last}
@@ -52,5 +54,6 @@ beyond prims C map F = record {
   whole = λ m r n D l. whole-digests prims map F n D l m r;
   device = device-final prims map F;
   courses = courses-run prims map F;
+  tokens = λ m l. transition-shows prims map (after prims map l m);
   sensing = after-unsensed prims map;
 }

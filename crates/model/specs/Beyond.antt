@@ -1,18 +1,19 @@
 -- Beyond demand 3, in the same style: nothing is burnt twice, a refusal names its word, what a write stored is what is ever read, a digest is never written in
--- part, the device code is final, the life cycle only goes forward, and what only a power-up or a transition changes.
-use Prim.Native.Nat.{ℕ, suc, _+_, _/_, _%_, _^_, _≤_, _<_}
+-- part, the device code is final, the life cycle only goes forward, and by the right token, and what only a power-up or a transition changes.
+use Prim.Native.Nat.{ℕ, suc, _+_, _*_, _/_, _%_, _^_, _≤_, _<_}
 use mathlib.Core.Path.{_≡_}
-use mathlib.Core.Bool.{true}
+use mathlib.Core.Bool.{Bool, true, false}
 use mathlib.Core.List.{List, [], _∷_, _++_}
 use lib.ListN.{length, getD}
 use Rattle.words.specs.declared.Rule.{Rule}
 use Rattle.words.specs.declared.Rule.the-variants.{BlankOnly}
 use Rattle.words.specs.Words.{numberOf, wordsOf, partAt}
-use Rattle.words.specs.Programming.{Lowest}
-use Rattle.partitions.specs.Map.{Map, rightsOf, numberAt, partition, partitionAt, limit, inDigest, firstWord, wordCount}
+use Rattle.words.specs.Programming.{programCells, Lowest}
+use Rattle.partitions.specs.Map.{Map, rightsOf, numberAt, partition, partitionAt, limit, inDigest, firstWord, wordCount, numberOfKind}
 use Rattle.life_cycle.specs.declared.LifeCycle.{LifeCycle}
 use Rattle.life_cycle.specs.declared.LifeCycle.the-variants.{Valid}
 use Rattle.life_cycle.specs.declared.Token.{Token}
+use Rattle.life_cycle.specs.declared.Token.the-variants.{Nothing, RawUnlock, TestUnlock, TestExit, Rma}
 use Rattle.life_cycle.specs.declared.Entry.the-variants as entry
 use Rattle.life_cycle.specs.Words.{counterWords, stateWords}
 use Rattle.life_cycle.specs.Transitions.{transition}
@@ -22,8 +23,8 @@ use Rattle.model.specs.declared.Command.{Command}
 use Rattle.model.specs.declared.Command.the-variants.{Read, Write, FrontRead, Digest, Transition, PowerUp}
 use Rattle.model.specs.Answers.{codeOf, valueOf}
 use Rattle.model.specs.Session.{isReady, sensedLocked}
-use Rattle.model.specs.Lent.{Machine, Primitives}
-use Rattle.model.specs.Commands.{directRule, lifeCycleRule, granule, storedDigest, computedDigest, counterAt}
+use Rattle.model.specs.Lent.{Machine, Primitives, rawUnlockHash}
+use Rattle.model.specs.Commands.{directRule, lifeCycleRule, granule, storedDigest, tokenKind, computedDigest, hashesTo, counterAt, storedToken}
 use Rattle.model.specs.PowerUp.{lifeCycleIn}
 use Rattle.model.specs.Step.{step, after, machineAfter, answerTo}
 use Rattle.model.specs.Terms.{Right, Digested, storedWords, Spared, Allowed, usedValue, quiet}
@@ -67,6 +68,25 @@ module _ (prims : Primitives) (map : Map) where
     pub words : List ℕ
     pub target : Targets m x rule at words
     pub lowest : Lowest rule (m .lent .cells) at words i
+
+  -- what comparing the token given comes to (request Four): by its hash, with the RAW_UNLOCK constant, or with what the copy holds of a partition that
+  -- is sensed locked. "With none, the token is ignored".
+  abbrev pub Stored : Machine → ℕ → Bool → Token → Type 0
+  Stored m given same token =
+      (sensedLocked (m .session) (numberOfKind map (tokenKind token)) ≡ true) × (hashesTo prims given (storedToken map token (m .lent .copy)) ≡ same)
+
+  abbrev pub Compared : Machine → ℕ → Bool → Token → Type 0
+  Compared m given same Nothing = same ≡ true
+  Compared m given same RawUnlock = hashesTo prims given (rawUnlockHash (m .lent .constants)) ≡ same
+  Compared m given same TestUnlock = Stored m given same TestUnlock
+  Compared m given same TestExit = Stored m given same TestExit
+  Compared m given same Rma = Stored m given same Rma
+
+  -- the table asks for a token, and this is what comparing it comes to
+  pub record Asked (m : Machine) (target given : ℕ) (same : Bool) : Type 0 where
+    pub token : Token
+    pub allowed : transition (m .session .state) target ≡ entry.Allowed token
+    pub compared : Compared m given same token
 
   -- where a digest comes from that partition n holds after the commands l: it was there before them, or one of them put it there
   pub data Source (m : Machine) (l : List Command) (n digest : ℕ) : Type 0 where
@@ -125,6 +145,17 @@ module _ (prims : Primitives) (map : Map) where
     -- from a power-up on, what the life cycle words decode to only goes along the table, a stroke at a time
     pub courses : (m : Machine) → Right map m → (l₁ l₂ : List Command)
         → Course (lifeCycleIn map (after prims map (PowerUp ∷ l₁) m .lent)) (lifeCycleIn map (after prims map (PowerUp ∷ l₁ ++ l₂) m .lent))
+    -- Only the right token (request Four): a transition that answers 0 was given the token that the table asks for, by its hash. One that answers 0x23 was
+    -- given another; and "the stroke is still spent first": the counter words of one stroke more are programmed, and no other cell changes.
+    pub tokens : (m : Machine) (l : List Command) (target high low : ℕ)
+        → let m₁ = after prims map l m in
+        let given = high * 2 ^ 64 + low in
+        let code = codeOf (answerTo prims map (Transition target high low) m₁) in
+        let counter = counterWords (m₁ .lent .constants) (suc (m₁ .session .count)) in
+        (code ≡ 0x00 → Asked m₁ target given true)
+        × (code ≡ 0x23
+        → Asked m₁ target given false
+        × (machineAfter prims map (Transition target high low) m₁ .lent .cells ≡ programCells lifeCycleRule (m₁ .lent .cells) (counterAt map) counter))
     -- a list without power-up and transition leaves the copy and the sensed digests as they were
     pub sensing : (m : Machine) (l : List Command) → Quiet l
         → (after prims map l m .lent .copy ≡ m .lent .copy) × (after prims map l m .session .sensed ≡ m .session .sensed)

@@ -28,7 +28,7 @@ use Rattle.model.specs.Cases.{blank, number, table, Hold, blankDigest}
 use Rattle.model.specs.Terms.{Right, Cipher, Digested, storedWords, Lasts, Spared, usedValue, Allowed, Matched, HiddenWord, Alike}
 use Rattle.model.specs.Demand3.{Demand3, Ready}
 use Rattle.model.specs.Session.{readLocked}
-use Rattle.model.specs.Beyond.{Beyond, Says, writing, digesting, Named, Puts, writes, Source, put, stays, moves}
+use Rattle.model.specs.Beyond.{Beyond, Says, Asked, writing, digesting, Named, Puts, writes, Source, put, stays, moves}
 use Rattle.model.proofs.Everything.{everything}
 use Rattle.model.proofs.ToyChip.{toyWith, toy, off, ready, tested}
 use Rattle.model.proofs.Cases.{cases}
@@ -290,6 +290,20 @@ exchanged = set tested 304 9
 token-matched : Matched toy map1 (PowerUp ∷ Transition 3 0 0x71 ∷ []) (off tested) (off exchanged)
 unfolding everything Matched tested exchanged
 token-matched = (tt, (refl, tt), ((refl, tt), tt, tt))
+
+-- ---- tokens: TEST_LOCKED0 to TEST_UNLOCKED1 asks for TEST_UNLOCK, 0x71; its hash 0x70 is no token, and costs the third stroke
+
+token-right : Asked toy map1 (after toy map1 (PowerUp ∷ []) (off tested)) 3 0x71 true
+unfolding everything tested
+token-right = toy-beyond .tokens (off tested) (PowerUp ∷ []) 3 0 0x71 .0 refl
+
+token-wrong : Asked toy map1 (after toy map1 (PowerUp ∷ []) (off tested)) 3 0x70 false
+unfolding everything tested
+token-wrong = toy-beyond .tokens (off tested) (PowerUp ∷ []) 3 0 0x70 .1 refl .0
+
+third-stroke : after toy map1 (PowerUp ∷ Transition 3 0 0x70 ∷ []) (off tested) .lent .cells ≡ set tested 406 3
+unfolding everything tested
+third-stroke = refl
 
 -- ---- the device code: HW_CFG locked with the DEVICE_ID's first word 0x1234; a later front read that answers 0 shows it
 
