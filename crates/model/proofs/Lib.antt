@@ -6,7 +6,7 @@ pub mod Steps
 pub mod Obeyed
 pub mod Locks
 pub mod Waking
-pub mod Asking
+pub mod TokensAsked
 pub mod Targets
 pub mod NamedWords
 pub mod Digests

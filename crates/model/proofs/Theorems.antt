@@ -13,7 +13,7 @@ use Rattle.model.proofs.Refusals.{commands-refuse, power-ups-refuse, tr
 use Rattle.model.proofs.Deaths.{deaths-told}
 use Rattle.model.proofs.Steps.{bits-stay}
 use Rattle.model.proofs.Locks.{locked-since}
-use Rattle.model.proofs.Asking.{transition-shows}
+use Rattle.model.proofs.TokensAsked.{transition-shows}
 use Rattle.model.proofs.NamedWords.{refused-named, locked-denied}
 use Rattle.model.proofs.SecondBurns.{found-blank, no-second-burn, granule-final}
 use Rattle.model.proofs.Writes.{write-taken, reads-back, reads-last}

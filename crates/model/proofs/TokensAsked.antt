@@ -1,13 +1,14 @@
 -- Only the right token. The idea: a comparison leads to the move or to 0x23 by its result alone; every refusal before it has another code, and every one
 -- behind the stroke leaves the cells that the stroke left.
-use mathlib.Core.Path.{_≡_, refl, sym}
-use mathlib.Core.Bool.{Bool, true, false, not}
+use mathlib.Core.Path.{_≡_, refl}
+use mathlib.Core.Bool.{Bool, true, false}
 use mathlib.Core.List.{List}
 use Prim.Native.Nat.{ℕ, suc, _+_, _*_, _^_}
+use lib.Dec.{eqb}
 use borrow.Author.Tests.{eqb-false, not-false}
 use Rattle.basics.proofs.Choice.{true-not-false, if-both}
 use Rattle.words.specs.Programming.{programAnswer, programCells}
-use Rattle.partitions.specs.Map.{Map, numberOfKind}
+use Rattle.partitions.specs.Map.{Map}
 use Rattle.life_cycle.specs.declared.Token.{Token}
 use Rattle.life_cycle.specs.declared.Token.the-variants.{Nothing, RawUnlock, TestUnlock, TestExit, Rma}
 use Rattle.life_cycle.specs.declared.Entry.{Entry}
@@ -16,15 +17,12 @@ use Rattle.life_cycle.specs.Words.{counterWords}
 use Rattle.life_cycle.specs.Transitions.{transition}
 use Rattle.model.specs.declared.Answer.{Answer}
 use Rattle.model.specs.declared.Answer.the-variants.{TokenDiffers}
-use Rattle.model.specs.declared.Command.{Command}
 use Rattle.model.specs.declared.Command.the-variants.{Transition}
 use Rattle.model.specs.Answers.{codeOf}
-use Rattle.model.specs.Session.{sensedLocked}
 use Rattle.model.specs.Lent.{Machine, Primitives}
 use Rattle.model.specs.Acts.{Turn, halt, die, Act, say, program, compare, Performed, perform, noting}
-use Rattle.model.specs.Commands.{lifeCycleRule, tokenKind, counterAt, moveAct, lockedTokenAct, tokenAct, entryAct, transitionAct, commandAct, readyAct}
-use Rattle.model.specs.Step.{Step, unchanged, performed, act, obey, after, machineAfter, answerTo}
-use Rattle.model.specs.Refusals.{judged}
+use Rattle.model.specs.Commands.{lifeCycleRule, counterAt, moveAct, lockedTokenAct, tokenAct, entryAct, transitionAct, commandAct, readyAct}
+use Rattle.model.specs.Step.{Step, unchanged, performed, act, obey, machineAfter, answerTo}
 use Rattle.model.specs.Beyond.{Stored, Compared, Asked}
 use Rattle.model.proofs.Acts.{after-both}
 use Rattle.model.proofs.Steps.{step-both}
@@ -41,14 +39,14 @@ module _ (prims : Primitives) (map : Map) (m : Machine) (target given : ℕ) whe
   Told left r = Tells left (codeOf (r .answer)) (r .cells)
 
   -- another code tells nothing
-  nothing : {code : ℕ} {left cells : List ℕ} → (code ≡ 0x00 → ⊥) → (code ≡ 0x23 → ⊥) → Tells left code cells
-  nothing f g = (λ e. absurd (f e), λ e. absurd (g e))
+  nothing : {code : ℕ} {left cells : List ℕ} → eqb code 0x00 ≡ false → eqb code 0x23 ≡ false → Tells left code cells
+  nothing f g = (λ e. absurd (eqb-false _ _ f e), λ e. absurd (eqb-false _ _ g e))
 
   moves : (cells : List ℕ) → Asked prims map m target given true → Told cells (perform (moveAct prims map m target) copy cells)
   unfolding moveAct perform
   moves cells asked =
       after-both (Told cells) (programAnswer _ _ _ _) _ _ (λ e. (λ f. asked, λ f. absurd (eqb-false _ _ refl f)))
-      (λ cell e. nothing (eqb-false _ _ refl) (eqb-false _ _ refl))
+      (λ cell e. nothing refl refl)
 
   -- a comparison, whatever it comes to
   compares : (token : Token) → transition (m .session .state) target ≡ Allowed token → (test : List ℕ → Bool)
@@ -64,13 +62,13 @@ module _ (prims : Primitives) (map : Map) (m : Machine) (target given : ℕ) whe
       → Told cells (perform (lockedTokenAct prims map m token target given) copy cells)
   unfolding lockedTokenAct
   locked token e h cells =
-      if-both (λ (a : Act). Told cells (perform a copy cells)) _ _ _ (λ t. unfold perform in (nothing (eqb-false _ _ refl) (eqb-false _ _ refl)))
+      if-both (λ (a : Act). Told cells (perform a copy cells)) _ _ _ (λ t. unfold perform in (nothing refl refl))
       (λ t. compares token e _ (λ same s. h same (not-false _ t, s)) cells)
 
   asks : (entry : Entry) → transition (m .session .state) target ≡ entry → (cells : List ℕ)
       → Told cells (perform (entryAct prims map m entry target given) copy cells)
   unfolding entryAct tokenAct
-  asks Forbidden e cells = unfold perform in (nothing (eqb-false _ _ refl) (eqb-false _ _ refl))
+  asks Forbidden e cells = unfold perform in (nothing refl refl)
   asks (Allowed Nothing) e cells = moves cells (record { token = Nothing; allowed = e; compared = refl })
   asks (Allowed RawUnlock) e cells = compares RawUnlock e _ (λ same s. s) cells
   asks (Allowed TestUnlock) e cells = locked TestUnlock e (λ same s. s) cells
@@ -86,7 +84,7 @@ module _ (prims : Primitives) (map : Map) (m : Machine) (target given : ℕ) whe
   struck = programCells lifeCycleRule (m .lent .cells) (counterAt map) counter
 
   -- a refusal before the stroke
-  refuses : (answer : Answer) (turn : Turn) → (codeOf answer ≡ 0x00 → ⊥) → (codeOf answer ≡ 0x23 → ⊥) → Told struck (perform (say answer turn) copy (m .lent .cells))
+  refuses : (answer : Answer) (turn : Turn) → eqb (codeOf answer) 0x00 ≡ false → eqb (codeOf answer) 0x23 ≡ false → Told struck (perform (say answer turn) copy (m .lent .cells))
   unfolding perform
   refuses answer turn f g = nothing f g
 
@@ -94,14 +92,14 @@ module _ (prims : Primitives) (map : Map) (m : Machine) (target given : ℕ) whe
   unfolding transitionAct
   strikes =
       let to : Act → Type 0 = λ a. Told struck (perform a copy (m .lent .cells)) in
-      if-both to _ _ _ (λ t. refuses _ _ (eqb-false _ _ refl) (eqb-false _ _ refl))
-      λ t. if-both to _ _ _ (λ t. refuses _ _ (eqb-false _ _ refl) (eqb-false _ _ refl))
-      λ t. if-both to _ _ _ (λ t. refuses _ _ (eqb-false _ _ refl) (eqb-false _ _ refl)) λ t. stroke
+      if-both to _ _ _ (λ t. refuses _ _ refl refl)
+      λ t. if-both to _ _ _ (λ t. refuses _ _ refl refl)
+      λ t. if-both to _ _ _ (λ t. refuses _ _ refl refl) λ t. stroke
     where
       stroke : Told struck (perform (program lifeCycleRule (counterAt map) counter die (entryAct prims map m (transition (m .session .state) target) target given)) copy (m .lent .cells))
       stroke = unfold perform in
           (after-both (Told struck) (programAnswer lifeCycleRule (m .lent .cells) (counterAt map) counter) _ _ (λ e. asks _ refl struck)
-          (λ cell e. nothing (eqb-false _ _ refl) (eqb-false _ _ refl)))
+          (λ cell e. nothing refl refl))
 
 module _ (prims : Primitives) (map : Map) (m : Machine) (target high low : ℕ) where
   abbrev given : ℕ
@@ -115,10 +113,10 @@ module _ (prims : Primitives) (map : Map) (m : Machine) (target high low : ℕ) 
   unfolding obey act performed readyAct commandAct
   shows =
       if-both (λ (a : Act). Told prims map m target given (struck prims map m target given) (perform a (m .lent .copy) (m .lent .cells))) _ _ _
-      (λ t. refuses prims map m target given _ _ (eqb-false _ _ refl) (eqb-false _ _ refl)) (λ t. strikes prims map m target given)
+      (λ t. refuses prims map m target given _ _ refl refl) (λ t. strikes prims map m target given)
 
   pub transition-shows : Tells prims map m target given (struck prims map m target given) (codeOf (answerTo prims map (Transition target high low) m))
       (machineAfter prims map (Transition target high low) m .lent .cells)
   transition-shows =
       step-both prims map Shows (Transition target high low) m
-      (λ answer j. unfold unchanged in (nothing prims map m target given (λ f. true-not-false j (rw f)) (λ f. true-not-false j (rw f)))) shows
+      (λ answer j. unfold unchanged in (λ e. absurd (true-not-false j (rw e)), λ e. absurd (true-not-false j (rw e)))) shows
