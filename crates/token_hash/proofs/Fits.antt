@@ -7,4 +7,4 @@ use Rattle.token_hash.specs.TokenHash.{numberOfBytes, tokenHash}
 
 pub hash-lt : (token : ℕ) → tokenHash token < 2 ^ 128
 unfolding tokenHash numberOfBytes
-hash-lt token = number-lt 256 (lit< tt) 16 _ (cshake-bytes _ _ _ _)
+hash-lt token = number-lt 256 (lit< tt) 16 _ (λ i. cshake-bytes _ _ _ _ _)
