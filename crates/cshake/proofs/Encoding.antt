@@ -1,5 +1,5 @@
 -- Laws of the string encodings. The idea: two bounds tell how many bytes a number takes, and a byte more at its low end adds one to them.
-use mathlib.Core.Path.{_≡_, refl, sym, ap, _∙_}
+use mathlib.Core.Path.{_≡_, sym, ap, _∙_}
 use mathlib.Core.Bool.{Bool, true, false}
 use mathlib.Core.List.{List, [], _∷_, _++_}
 use Prim.Native.Nat.{ℕ, zero, suc, _+_, _*_, _-_, _/_, _%_, _^_, _≤_, _<_}
@@ -44,10 +44,6 @@ module _ (test : ℕ → Bool) where
 
 power-more : (n : ℕ) → 2 ^ (8 * suc n) ≡ 2 ^ (8 * n) * 256
 power-more n = ap (λ (m : ℕ). 2 ^ m) (mul-suc 8 n) ∙ pow-add 2 (8 * n) 8
-
-pub byte-power : (n : ℕ) → 256 ^ n ≡ 2 ^ (8 * n)
-byte-power zero = refl
-byte-power (suc n) = omega (arith, pow-succ' 256 n, byte-power n, power-more n)
 
 below-power : (n : ℕ) → n < 2 ^ (8 * n)
 below-power zero = lit< tt

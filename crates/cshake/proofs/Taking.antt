@@ -9,9 +9,10 @@ use Rattle.basics.specs.Range.{listed}
 use Rattle.basics.specs.Digits.{digit}
 use Rattle.sponge.specs.declared.Sponge.{Sponge}
 use Rattle.sponge.specs.Streaming.{fresh, taken, takenAll, filled}
+use Rattle.sponge.proofs.Shifting.{power-256}
 use Rattle.sponge.proofs.Streams.{takenAll-append, filled-is}
 use Rattle.cshake.specs.Encoding.{byteCount, leftEncode, encodeString, bytepad}
-use Rattle.cshake.proofs.Encoding.{bytesDown, byte-power, encode-small, encode-more}
+use Rattle.cshake.proofs.Encoding.{bytesDown, encode-small, encode-more}
 
 -- the lowest i of n bytes are left to take
 abbrev pub bytesLeft : ℕ → ℕ → ℕ → List ℕ
@@ -32,7 +33,7 @@ bytes-next s x n (suc k) h l =
     let here : n - suc (n - suc k) ≡ k = omega arith in
     let rest : suc (n - suc k) ≡ n - k = omega arith in
     let less : suc k - 1 ≡ k = omega arith in
-    let byte = ap (digit 256 x) here ∙ ap (λ (p : ℕ). x / p % 256) (byte-power k) in
+    let byte = ap (digit 256 x) here ∙ ap (λ (p : ℕ). x / p % 256) (sym (power-256 k)) in
     rw less (ap₂ (λ (b i : ℕ). takenAll (taken s b) (listed (λ j. digit 256 x (n - suc j)) i k)) byte rest)
 
 -- ---- pieces that are taken one after another

@@ -13,8 +13,8 @@ use Rattle.basics.specs.Range.{sum}
 use Rattle.basics.specs.Digits.{digit, number}
 use Rattle.basics.proofs.Sum.{sum-same}
 use Rattle.basics.proofs.Digits.{digit-low}
+use Rattle.sponge.proofs.Shifting.{power-256}
 use Rattle.cshake.specs.CShake.{cShake128}
-use Rattle.cshake.proofs.Encoding.{byte-power}
 use Rattle.token_hash.specs.TokenHash.{customization, bytesOf, numberOfBytes, tokenHash}
 
 -- ---- the bytes of a number
@@ -24,7 +24,7 @@ module _ (high low i : ℕ) (fits : low < 2 ^ 64) where
   low-byte h =
       let e : i % 8 ≡ i = omega arith in
       ap (λ (k : ℕ). low / 2 ^ (8 * k) % 256) e
-      ∙ ap (λ (p : ℕ). low / p % 256) (sym (byte-power i))
+      ∙ ap (λ (p : ℕ). low / p % 256) (power-256 i)
       ∙ ap (λ (x : ℕ). digit 256 x i) (sym (digits-mod high fits))
       ∙ digit-low 256 (lit< tt) 8 i (high * 2 ^ 64 + low) h
 
@@ -32,7 +32,7 @@ module _ (high low i : ℕ) (fits : low < 2 ^ 64) where
   high-byte h l =
       let k = i % 8 in
       let e : 8 + k ≡ i = omega arith in
-      ap (λ (p : ℕ). high / p % 256) (sym (byte-power k))
+      ap (λ (p : ℕ). high / p % 256) (power-256 k)
       ∙ ap (λ (x : ℕ). x / 256 ^ k % 256) (sym (digits-div high fits))
       ∙ ap (λ (x : ℕ). x % 256) (div-div-eq-div-mul (high * 2 ^ 64 + low) (2 ^ 64) (256 ^ k))
       ∙ ap (λ (p : ℕ). (high * 2 ^ 64 + low) / p % 256) (sym (pow-add 256 8 k))
