@@ -17,7 +17,8 @@ use Rattle.basics.specs.Digits.{bit}
 use Rattle.basics.proofs.Range.{all-at}
 use Rattle.basics.proofs.Digits.{digit-lt, digit-number, number-lt, number-is}
 use Rattle.basics.proofs.Bits.{bit-and, bit-xor}
-use Rattle.keccak.specs.State.{Lanes, bitAt, laneOf}
+use Rattle.keccak.specs.State.{bitAt, laneOf}
+use Rattle.keccak.specs.Rows.{Lanes}
 use Rattle.keccak.proofs.Turning.{turned-bit}
 
 -- the 64 bits of x are f 0, f 1, ..

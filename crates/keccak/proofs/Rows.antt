@@ -9,7 +9,8 @@ use lib.ListN.{length, getD, set, take, drop}
 use lib.Seq.{sets, length-sets, sets-eq, take-all, paste, paste-suc}
 use Rattle.basics.specs.Range.{listed}
 use Rattle.basics.proofs.Range.{length-listed, listed-at, is-listed, is-listed-from, sets-more}
-use Rattle.keccak.specs.State.{laneOf, stateOf, rowOf}
+use Rattle.keccak.specs.State.{laneOf, stateOf}
+use Rattle.keccak.specs.Rows.{rowOf}
 
 -- ---- a row stored lane by lane
 

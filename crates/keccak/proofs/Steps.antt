@@ -15,9 +15,10 @@ use Rattle.basics.specs.Digits.{bit}
 use Rattle.basics.proofs.Choice.{by-cases, not-passed, and-left, and-right, if-true, if-false}
 use Rattle.basics.proofs.Range.{listed-at, is-listed}
 use Rattle.basics.proofs.Digits.{digit-lt}
-use Rattle.keccak.specs.State.{Lanes, bitAt, laneOf, stateOf}
+use Rattle.keccak.specs.State.{bitAt, laneOf, stateOf}
 use Rattle.keccak.specs.StepMappings.{columnParity, thetaBit, offset, rhoBit, piBit, chiBit, register, rc, roundConstant, iotaBit, iota}
 use Rattle.keccak.specs.Tables.{offsets, roundConstants}
+use Rattle.keccak.specs.Rows.{Lanes}
 use Rattle.keccak.proofs.Lanes.{HasBits, ones-bits, own-bits, xor-bits, and-bits, is-lane, lane-bits, lane-at, changed, turned-has}
 use Rattle.keccak.proofs.Rows.{laneAt}
 

@@ -2,3 +2,4 @@ pub mod State
 pub mod StepMappings
 pub mod Permutation
 pub mod Tables
+pub mod Rows

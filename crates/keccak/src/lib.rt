@@ -6,10 +6,11 @@ ghost use Prim.Native.Nat.{_+_, _*_, _-_, _%_, _<_};
 ghost use lib.Seq.{sets};
 ghost use Rattle.basics.specs.Range.{listed};
 ghost use Rattle.basics.specs.Digits.{bit};
-ghost use Rattle.keccak.specs.State.{Lanes, laneOf, rowOf};
+ghost use Rattle.keccak.specs.State.{laneOf};
 ghost use Rattle.keccak.specs.StepMappings.{columnParity, theta, thetaBit, rho, rhoBit, pi, piBit, chi, chiBit, iota};
 ghost use Rattle.keccak.specs.Permutation.{round, keccakF};
 ghost use Rattle.keccak.specs.Tables.{offsets, roundConstants};
+ghost use Rattle.keccak.specs.Rows.{Lanes, rowOf};
 
 const ROUNDS: usize = 24;
 

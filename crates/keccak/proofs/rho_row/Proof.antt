@@ -3,7 +3,8 @@ use mathlib.Core.Path.{refl, _∙_}
 use Prim.Native.Nat.{_-_}
 use native.Mathlib.Omega.{arith}
 use Rattle.basics.proofs.Range.{Follows, follows-none, follows-more, follows-all}
-use Rattle.keccak.specs.State.{laneOf, rowOf}
+use Rattle.keccak.specs.State.{laneOf}
+use Rattle.keccak.specs.Rows.{rowOf}
 use Rattle.keccak.specs.StepMappings.{rhoBit}
 use Rattle.keccak.proofs.Steps.{rho-lane, offset-at, offset-lt}
 use Rattle.keccak.proofs.rho_row.Statement.{statement}
