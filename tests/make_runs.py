@@ -1,20 +1,29 @@
 #!/usr/bin/env python3
-"""Writes the bench runs under tests/runs/ from the descriptions below.
+"""Writes the data of the bench runs from the descriptions below: tests/runs/, the folders under examples/ and the run of the crate bench.
 
 Each run is a folder: `about` (one line: what it shows), `script.bin`, `image.bin` and `constants.bin` (left out where the run has none) and
 `expected`, the bytes that the bench program has to print. Expected lines that document 01 fixes are written here by hand; those of the long
 runs come from the independent program, which was written from the papers: pass its path. It also hashes the tokens that are to be stored. The
-program under test is never asked.
+program under test is never asked. An example is the same, but its script comes from its `script.txt`, and what it prints stands in a document.
 
-usage: make_runs.py INDEPENDENT
+With --check nothing is written: all is made anew and compared with what is stored, which must be that and no more.
+
+usage: make_runs.py INDEPENDENT [--check]
 """
 import hashlib
+import importlib.machinery
+import importlib.util
 import os
 import shutil
 import subprocess
 import sys
+import tempfile
 
+sys.dont_write_bytecode = True
 HERE = os.path.dirname(os.path.abspath(__file__))
+ROOT = os.path.dirname(HERE)
+if len(sys.argv) not in (2, 3) or sys.argv[2:] not in ([], ["--check"]):
+    sys.exit("usage: make_runs.py INDEPENDENT [--check]")
 INDEPENDENT = os.path.abspath(sys.argv[1])
 
 
@@ -126,6 +135,7 @@ def lines(*answers):
 
 
 RUNS = []
+EXAMPLES = ("first", "to_prod")
 
 
 def run(name, about, script, expected=None, image=BLANK, consts=GOOD, last=b""):
@@ -339,23 +349,88 @@ for partition, (digest_word, start) in {2: (292, 0x200), 3: (312, 0x250), 4: (35
         lines((7, 6, partition), (1, 7, 0), (2, 7, 0)), with_word(BLANK, digest_word, 0x4242))
 run("digest_before_life_cycle", "the digest check comes before the life cycle", UP, lines((7, 6, 2)), with_word(with_word(BLANK, 440, 0x7777), 292, 1))
 
+# ---- what a transcript of zeros does not tell
+run("data_after_digest", "data written after the digest command is answered 0, and the next power-up 6: its digest is not that of the data",
+    UP + write(0x200, 1) + digest(0x200) + write(0x204, 2) + UP + read(0), last=plain_lines((2, 0, 0), (7, 6, 2), (1, 7, 0)))
+run("raw_token_stored", "a raw token written where its hash belongs is answered 0 like any data, and the token then answers 0x23",
+    UP + write(0x260, TEST_EXIT % 2**64) + write(0x268, TEST_EXIT >> 64) + digest(0x250) + UP + move(17, TEST_EXIT) + UP,
+    image=life(1, state(1)), last=plain_lines((7, 0, 257), (6, 0x23, 0), (7, 0, 513)))
+run("high_half_not_stored", "a write to 4 bytes answers 0 whatever the high half of its data, which is stored nowhere",
+    UP + write(0x200, 0x1122334455667788) + read(0x200) + read(0x204), lines((7, 0, 0), (2, 0, 0), (1, 0, 0x55667788), (1, 0, 0)))
 
-def main():
-    shutil.rmtree(os.path.join(HERE, "runs"), ignore_errors=True)
-    for name, about, script, image, consts, expected, last in RUNS:
-        folder = os.path.join(HERE, "runs", name)
-        os.makedirs(folder)
-        files = {"script.bin": script, "image.bin": image, "constants.bin": consts, "about": about.encode() + b"\n"}
-        for file, data in files.items():
+
+def script_of(example):
+    """The bytes of an example's script.txt, by examples/bytes."""
+    loader = importlib.machinery.SourceFileLoader("example_bytes", os.path.join(ROOT, "examples", "bytes"))
+    module = importlib.util.module_from_spec(importlib.util.spec_from_loader("example_bytes", loader))
+    loader.exec_module(module)
+    with open(os.path.join(ROOT, "examples", example, "script.txt"), encoding="utf-8") as f:
+        return module.bytes_of(f.read())
+
+
+def answered(name, script, image, consts, expected, last):
+    """What a run has to print."""
+    with tempfile.TemporaryDirectory() as folder:
+        for file, data in (("image.bin", image), ("constants.bin", consts)):
             if data is not None:
                 with open(os.path.join(folder, file), "wb") as f:
                     f.write(data)
         answer = subprocess.run([INDEPENDENT, "bench"], cwd=folder, input=script, stdout=subprocess.PIPE, check=True).stdout
-        if expected is not None and expected != answer or not answer[: answer.index(b"end")].endswith(last):
-            sys.exit("%s: the paper's lines and the independent program's differ" % name)
-        with open(os.path.join(folder, "expected"), "wb") as f:
-            f.write(answer if expected is None else expected)
-    print("%d runs" % len(RUNS))
+    if expected is not None and expected != answer or not answer[: answer.index(b"end")].endswith(last):
+        sys.exit("%s: the paper's lines and the independent program's differ" % name)
+    return answer
+
+
+def made():
+    """All files, by their paths from the root."""
+    files = {}
+    for name, about, script, image, consts, expected, last in RUNS:
+        folder = os.path.join("tests", "runs", name)
+        answer = answered(name, script, image, consts, expected, last)
+        data = {"script.bin": script, "image.bin": image, "constants.bin": consts, "about": about.encode() + b"\n", "expected": answer}
+        files.update({os.path.join(folder, file): value for file, value in data.items() if value is not None})
+    for example in EXAMPLES:
+        data = {"script.bin": script_of(example), "image.bin": words(BLANK), "constants.bin": words(GOOD)}
+        files.update({os.path.join("examples", example, file): value for file, value in data.items()})
+    bench = os.path.join("crates", "bench")
+    data = {"stdin": EXAMPLE, "stdout": EXAMPLE_LINES, os.path.join("data", "image.bin"): words(BLANK), os.path.join("data", "constants.bin"): words(GOOD)}
+    files.update({os.path.join(bench, file): value for file, value in data.items()})
+    return files
+
+
+def stored():
+    """The paths under the folders that are made here and nowhere else, and of an example the files that are made."""
+    folders = [os.path.join("tests", "runs"), "examples", os.path.join("crates", "bench", "data")]
+    found = [os.path.relpath(os.path.join(at, file), ROOT) for folder in folders for at, _, names in os.walk(os.path.join(ROOT, folder)) for file in names]
+    return [path for path in found if not path.startswith("examples" + os.sep) or path.endswith(".bin")]
+
+
+def differences(files):
+    for path in sorted(set(stored()) - set(files)):
+        yield "%s is stored, and nothing makes it" % path
+    for path, data in sorted(files.items()):
+        try:
+            with open(os.path.join(ROOT, path), "rb") as f:
+                if f.read() != data:
+                    yield "%s is not what is made" % path
+        except OSError:
+            yield "%s is made, and not stored" % path
+
+
+def main():
+    files = made()
+    if sys.argv[2:] == ["--check"]:
+        found = list(differences(files))
+        for difference in found:
+            print(difference)
+        print("%d files of runs and examples, %d differ from what is stored" % (len(files), len(found)))
+        sys.exit(1 if found else 0)
+    shutil.rmtree(os.path.join(HERE, "runs"), ignore_errors=True)
+    for path, data in files.items():
+        os.makedirs(os.path.join(ROOT, os.path.dirname(path)), exist_ok=True)
+        with open(os.path.join(ROOT, path), "wb") as f:
+            f.write(data)
+    print("%d runs, %d examples" % (len(RUNS), len(EXAMPLES)))
 
 
 if __name__ == "__main__":

@@ -1,4 +1,5 @@
-// The bench program: it reads the script and the two files, and writes the lines that `transcript` and `script` make.
+// The bench program: it reads the script and the two files, and writes the lines that `transcript` and `script` make. Where standard output does not
+// take a line, it writes no more of them, so that the end line only stands behind all lines, and says so on standard error.
 use libc::STDIN_FILENO;
 use libc::STDOUT_FILENO;
 use model::Session;
@@ -11,11 +12,17 @@ ghost use Rattle.io.specs.Counts.{Counts};
 // More than there are records in the bytes of `script_buffer`.
 const MOST_TURNS: u32 = 65538;
 
-// Where a rehearsal stands, and how many bytes of lines wait to be written.
+// How many bytes of lines wait to be written, and whether all before them were.
+struct Waiting {
+    used: usize,
+    written: bool,
+}
+
+// Where a rehearsal stands.
 struct Progress {
     session: Session,
     place: usize,
-    used: usize,
+    waiting: Waiting,
     going: bool,
 }
 
@@ -74,11 +81,11 @@ fn read_words(path: &[u8], words: &mut [u16]) -> usize
     transcript::file_words(&bytes[..n], words)
 }
 
-// Writes the lines that wait.
-fn write_out(out: &[u8], used: usize)
+// Writes the lines that wait; false where not all were taken.
+fn write_out(out: &[u8], used: usize) -> bool
     requires { ⌜ used ≤ length (now out) ⌝ }
 {
-    io::write_all(STDOUT_FILENO, &out[..used]);
+    io::write_all(STDOUT_FILENO, &out[..used])
 }
 
 // Stores a line.
@@ -91,17 +98,20 @@ fn store(out: &mut [u8], at: usize, line: &[u8; 23])
 }
 
 // Adds a line to those that wait, which are written first where there is no room for it.
-fn gather(out: &mut [u8], used: usize, line: &[u8; 23]) -> usize
+fn gather(out: &mut [u8], used: usize, line: &[u8; 23]) -> Waiting
     requires { ⌜ (used ≤ length (now out)) × (23 ≤ length (now out)) ⌝ }
-    ensures { λ r. ⌜ r ≤ length (now (out .entry)) ⌝ }
+    ensures { λ r. ⌜ r .used ≤ length (now (out .entry)) ⌝ }
 {
     if 23 <= out.len() - used {
         store(out, used, line);
-        return used + 23;
+        return Waiting {
+            used: used + 23,
+            written: true,
+        };
     }
-    write_out(&out[..], used);
+    let written = write_out(&out[..], used);
     store(out, 0, line);
-    23
+    Waiting { used: 23, written }
 }
 
 // More follows.
@@ -122,31 +132,32 @@ fn take_turn(
     out: &mut [u8],
     at: Progress,
 ) -> Progress
-    requires { ⌜ (at .used ≤ length (now out)) × (23 ≤ length (now out)) ⌝ }
-    ensures { λ r. ⌜ r .used ≤ length (now (out .entry)) ⌝ }
+    requires { ⌜ (at .waiting .used ≤ length (now out)) × (23 ≤ length (now out)) ⌝ }
+    ensures { λ r. ⌜ r .waiting .used ≤ length (now (out .entry)) ⌝ }
 {
     let t = transcript::turn(script, at.place, cells, copy, constants, at.session);
     let course = t.course;
     let session = t.session;
+    let before = at.waiting;
     if let Course::Ends = course {
         return Progress {
             session,
             place: t.place,
-            used: at.used,
+            waiting: before,
             going: false,
         };
     }
     let line = t.line;
-    let used = gather(out, at.used, &line);
+    let waiting = gather(out, before.used, &line);
     Progress {
         session,
         place: t.place,
-        used,
-        going: goes_on(course),
+        waiting,
+        going: goes_on(course) && waiting.written,
     }
 }
 
-// Takes turns until one is the last.
+// Takes turns until one is the last, or its line is not taken.
 fn take_turns(
     script: &[u8],
     cells: &mut [u16],
@@ -155,12 +166,16 @@ fn take_turns(
     out: &mut [u8],
 ) -> Progress
     requires { ⌜ 23 ≤ length (now out) ⌝ }
-    ensures { λ r. ⌜ r .used ≤ length (now (out .entry)) ⌝ }
+    ensures { λ r. ⌜ r .waiting .used ≤ length (now (out .entry)) ⌝ }
 {
+    let waiting = Waiting {
+        used: 0,
+        written: true,
+    };
     let mut at = Progress {
         session: Session::fresh(),
         place: 0,
-        used: 0,
+        waiting,
         going: true,
     };
     let mut left = MOST_TURNS;
@@ -171,20 +186,26 @@ fn take_turns(
     at
 }
 
-// Writes the end line.
-fn write_end(count: u64) {
+// Writes the end line; false where it was not taken.
+fn write_end(count: u64) -> bool {
     let end = script::end_line(count);
     let bytes = end.bytes;
     let len = end.len;
-    io::write_all(STDOUT_FILENO, &bytes[..len]);
+    io::write_all(STDOUT_FILENO, &bytes[..len])
 }
 
-// Writes the lines of a script and its end line.
-fn rehearse(script: &[u8], cells: &mut [u16], copy: &mut [u16], constants: &[u16]) {
+// Writes the lines of a script and its end line; false where not all were taken.
+fn rehearse(script: &[u8], cells: &mut [u16], copy: &mut [u16], constants: &[u16]) -> bool {
     let mut out = lines_buffer();
     let at = take_turns(script, cells, copy, constants, &mut out);
-    write_out(&out, at.used);
-    write_end(transcript::line_count(script));
+    let waiting = at.waiting;
+    if waiting.written {
+        let written = write_out(&out, waiting.used);
+        if written {
+            return write_end(transcript::line_count(script));
+        }
+    }
+    false
 }
 
 // Rehearses standard input over `image.bin` and `constants.bin`, from a fresh session record and a zero copy.
@@ -196,10 +217,13 @@ fn main() {
     let mut constants = constants_buffer();
     let constant_count = read_words(b"constants.bin", &mut constants);
     let mut copy = [0u16; 448];
-    rehearse(
+    let written = rehearse(
         &script[..n],
         &mut cells[..cell_count],
         &mut copy,
         &constants[..constant_count],
     );
+    if !written {
+        os::fail(b"bench: standard output");
+    }
 }
