@@ -84,9 +84,7 @@ fn perform(arguments: &[String]) -> Result<bool, String> {
             runs::compare(&arguments[1], count, &mut Random::new(seed))
         }
         (Some("hash"), 2) => {
-            let token = u128::from_str_radix(&arguments[1], 16)
-                .map_err(|_| format!("{}: not a token in hex", arguments[1]))?;
-            println!("{:032x}", token::hash(token));
+            println!("{:032x}", token::hash(token::given(&arguments[1])?));
             Ok(true)
         }
         (Some("bench"), 1) => match bench::run() {

@@ -19,9 +19,40 @@ pub fn hash_with(token: u128, name: &[u8], customization: &[u8]) -> u128 {
     places.fold(0, |sum, (i, &byte)| sum | u128::from(byte) << (8 * i))
 }
 
+/// A token as it is given in a call: exactly 32 hexadecimal digits, so that
+/// none is lost or doubled unnoticed.
+pub fn given(text: &str) -> Result<u128, String> {
+    if text.len() != 2 * BYTES || !text.bytes().all(|b| b.is_ascii_hexdigit()) {
+        return Err(format!(
+            "{text}: not a token, which has exactly 32 hexadecimal digits"
+        ));
+    }
+    u128::from_str_radix(text, 16).map_err(|error| error.to_string())
+}
+
 #[cfg(test)]
 mod tests {
     use super::*;
+
+    #[test]
+    fn a_token_is_given_by_exactly_32_digits() {
+        let token = 0x0011_2233_4455_6677_8899_aabb_ccdd_eeff;
+        assert_eq!(given("00112233445566778899aabbccddeeff"), Ok(token));
+        assert_eq!(given("00112233445566778899AABBCCDDEEFF"), Ok(token));
+        for text in [
+            "",
+            "0",
+            "0112233445566778899aabbccddeeff",
+            "000112233445566778899aabbccddeeff",
+            "+0112233445566778899aabbccddeeff",
+            "0x112233445566778899aabbccddeeff",
+            "0011223344556677 899aabbccddeeff",
+            "00112233445566778899aabbccddeefg",
+            "00112233445566778899aabbccddeeé",
+        ] {
+            assert!(given(text).is_err(), "{text}");
+        }
+    }
 
     /// Computed with another program, which works on lanes.
     #[test]
