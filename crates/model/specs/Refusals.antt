@@ -1,5 +1,5 @@
--- Demand 1, its last sentence, as one claim about every machine, whatever is lent: "A refusal changes nothing (but what the paper says of a life
--- cycle request)."
+-- Demand 1, its last sentence, as one claim about every machine, whatever is lent: "A refused command leaves every fuse as it was, except that a life
+-- cycle request refused after its count has burned its counter words, one stroke more than its record counts."
 use Prim.Native.Nat.{ℕ}
 use mathlib.Core.Path.{_≡_}
 use mathlib.Core.Bool.{Bool, true, false, _||_}
