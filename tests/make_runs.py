@@ -189,7 +189,8 @@ run("too_long_script", "65,537 bytes: one line 0x14 and nothing runs", UP + read
 # ---- the 14 cases
 CASES = [
     ("blank power-up", UP, lines((7, 0, 0)), BLANK),
-    ("blank reads at both ends of direct access", UP + read(0x327) + read(0x328) + read(0x37F) + read(0x380), lines((7, 0, 0), (1, 0, 0), (1, 5, 0), (1, 5, 0), (1, 5, 0)), BLANK),
+    ("blank reads at both ends of direct access", UP + read(0x327) + read(0x328) + read(0x37F) + read(0x380),
+     lines((7, 0, 0), (1, 0, 0), (1, 5, 0), (1, 5, 0), (1, 5, 0)), BLANK),
     ("a write at 3 acts at 0", UP + write(3, 0x55) + read(0), lines((7, 0, 0), (2, 0, 0), (1, 0, 0x55)), BLANK),
     ("0x0F, then 0xF0, then 0xFF at 0", UP + write(0, 0x0F) + write(0, 0xF0) + write(0, 0xFF), lines((7, 0, 0), (2, 0, 0), (2, 4, 0), (2, 4, 0)), BLANK),
     ("a write at a hardware digest", UP + write(0x248, 1), lines((7, 0, 0), (2, 5, 0)), BLANK),
@@ -202,7 +203,8 @@ CASES = [
     ("a wrong token", UP + move(1, RAW_TOKEN ^ 1) + UP, lines((7, 0, 0), (6, 0x23, 0), (7, 0, 256)), BLANK),
     ("RAW to DEV", UP + move(16, RAW_TOKEN) + UP, lines((7, 0, 0), (6, 0x21, 0), (7, 0, 256)), BLANK),
     ("24 strokes used", UP + move(20) + UP, lines((7, 0, 6144), (6, 0x20, 0), (7, 0, 6144)), life(24, state(0))),
-    ("a token's partition that is open", UP + move(1, RAW_TOKEN) + UP + move(2) + UP + move(3), lines((7, 0, 0), (6, 0, 0), (7, 0, 257), (6, 0, 0), (7, 0, 514), (6, 0x22, 0)), BLANK),
+    ("a token's partition that is open", UP + move(1, RAW_TOKEN) + UP + move(2) + UP + move(3),
+     lines((7, 0, 0), (6, 0, 0), (7, 0, 257), (6, 0, 0), (7, 0, 514), (6, 0x22, 0)), BLANK),
     ("DEVICE_ID: the front read is old until a power-up", UP + write(0x200, 0x99) + front(0x200) + read(0x200) + UP + front(0x200) + read(0x200),
      lines((7, 0, 0), (2, 0, 0), (3, 0, 0), (1, 0, 0x99), (7, 0, 0), (3, 0, 0x99), (1, 0, 0x99)), BLANK),
 ]
@@ -228,19 +230,23 @@ for name, start in (("creator", 0x000), ("owner", 0x100)):
         run("%s_digest_at_%03x" % (name, start + a), "a write at 0x%03X is the 8 bytes of the digest, before the next power-up and after" % (start + a),
             UP + write(start + a, NUMBER) + reads + UP + reads + write(start, 1) + write(start + 0xF8, 2**64 - 1),
             lines((7, 0, 0), (2, 0, 0), *shown, (7, 0, 0), *shown, (2, 5, 0), (2, 5, 0)))
-    run("%s_digest_halves" % name, "one half of a digest is not written after the other", UP + write(start + 0xF8, 1) + write(start + 0xFC, 1 << 32) + read(start + 0xFC) + UP,
+    run("%s_digest_halves" % name, "one half of a digest is not written after the other",
+        UP + write(start + 0xF8, 1) + write(start + 0xFC, 1 << 32) + read(start + 0xFC) + UP,
         lines((7, 0, 0), (2, 0, 0), (2, 4, (start + 0xF8) // 2), (1, 0, 1), (7, 0, 0)))
     run("%s_digest_high_half" % name, "a digest whose low half is zero locks like any other",
         UP + write(start + 0xFC, 1 << 32) + UP + write(start + 0xF7, 1) + write(start + 0xF8, (1 << 32) + 1) + read(start + 0xF8),
         lines((7, 0, 0), (2, 0, 0), (7, 0, 0), (2, 5, 0), (2, 5, 0), (1, 0, 1 << 32)))
 run("hardware_digest_reads", "a read anywhere in a hardware digest answers its 64 bits, beside its data and the next partition's; a write there is refused",
-    UP + b"".join(digest(a) for a in (0x200, 0x250, 0x278, 0x2D0)) + b"".join(read(a + d) + write(a + 4, 1) for a in (0x248, 0x270, 0x2C8, 0x320) for d in (-1, 0, 3, 4, 7, 8)))
+    UP + b"".join(digest(a) for a in (0x200, 0x250, 0x278, 0x2D0))
+    + b"".join(read(a + d) + write(a + 4, 1) for a in (0x248, 0x270, 0x2C8, 0x320) for d in (-1, 0, 3, 4, 7, 8)))
 
 # ---- no second burn
 TRIED = (0x0F, 0xFF, 0xF0, 0, 2**64 - 1)
 for name, start in (("creator", 0x000), ("last_of_owner", 0x1F4), ("device_id", 0x200)):
-    run("%s_burnt_once" % name, "0x%03X takes a value once: the same again, one that clears no bit, one that does and zero answer 4, and still do after a power-up" % start,
-        UP + write(start, 0x0F) + b"".join(write(start, v) for v in TRIED) + read(start) + UP + b"".join(write(start, v) for v in TRIED) + read(start) + write(start ^ 4, 0xFF),
+    run("%s_burnt_once" % name,
+        "0x%03X takes a value once: the same again, one that clears no bit, one that does and zero answer 4, and still do after a power-up" % start,
+        UP + write(start, 0x0F) + b"".join(write(start, v) for v in TRIED) + read(start) + UP + b"".join(write(start, v) for v in TRIED) + read(start)
+        + write(start ^ 4, 0xFF),
         lines((7, 0, 0), (2, 0, 0), *[(2, 4, start // 2)] * 5, (1, 0, 0x0F), (7, 0, 0), *[(2, 4, start // 2)] * 5, (1, 0, 0x0F), (2, 0, 0)))
 run("device_code_stands", "a second device code that clears no bit of the first answers 4, and the first is what is read and, after a power-up, front-read",
     UP + write(0x200, 0xC0DE0001) + write(0x200, 0xC0DE0003) + read(0x200) + UP + front(0x200) + write(0x200, 0xC0DE0003) + front(0x200),
@@ -251,8 +257,10 @@ run("other_word_of_the_granule", "a granule with one word burnt takes none for i
 run("zero_in_a_blank_granule", "a zero in a blank granule answers 0 and changes nothing: a value can follow, and then no zero; a digest of zero locks nothing",
     UP + write(0x200, 0) * 2 + write(0x200, 5) + write(0x200, 0) + read(0x200) + write(0xF8, 0) + UP + write(0, 1) + write(0xF8, 1) + write(0xF8, 0),
     lines((7, 0, 0), (2, 0, 0), (2, 0, 0), (2, 0, 0), (2, 4, 0x100), (1, 0, 5), (2, 0, 0), (7, 0, 0), (2, 0, 0), (2, 0, 0), (2, 4, 0x7C)))
-run("zero_in_a_secret_granule", "a zero in a secret granule is stored scrambled and burns; the value whose stored form is zero, which a blank block reads, does not",
-    UP + write(0x250, 0) + write(0x250, 0) + read(0x250) + read(0x258) + write(0x258, BLANK_READS) * 2 + write(0x258, 7) + write(0x258, BLANK_READS) + read(0x258),
+run("zero_in_a_secret_granule",
+    "a zero in a secret granule is stored scrambled and burns; the value whose stored form is zero, which a blank block reads, does not",
+    UP + write(0x250, 0) + write(0x250, 0) + read(0x250) + read(0x258) + write(0x258, BLANK_READS) * 2 + write(0x258, 7) + write(0x258, BLANK_READS)
+    + read(0x258),
     lines((7, 0, 0), (2, 0, 0), (2, 4, 0x128), (1, 0, 0), (1, 0, BLANK_READS), (2, 0, 0), (2, 0, 0), (2, 0, 0), (2, 4, 0x12C), (1, 0, 7)))
 run("digests_again", "each digest command again answers 4, though it computes the same, and the digest stays",
     UP + b"".join(digest(a) * 2 + read(d) for a, d in ((0x200, 0x248), (0x250, 0x270), (0x278, 0x2C8), (0x2D0, 0x320))) + UP)
@@ -271,12 +279,14 @@ for i, held in enumerate(HELD):
     image = BLANK
     for start in (0x250, 0x278, 0x318):
         image = with_words(image, start // 2, held)
-    run("word_%d_of_a_secret_granule" % i, "a secret granule whose lowest word that is not blank is word %d of it, in three partitions: a write answers 4 with that word's index over the whole array" % i,
+    run("word_%d_of_a_secret_granule" % i,
+        "a secret granule whose lowest word that is not blank is word %d of it, in three partitions: "
+        "a write answers 4 with that word's index over the whole array" % i,
         UP + b"".join(write(a, 0) + write(a + 7, 2**64 - 1) for a in (0x250, 0x278, 0x318)),
         lines((7, 0, 0), *[(2, 4, a // 2 + i) for a in (0x250, 0x278, 0x318) for _ in range(2)]), image)
 run("word_of_a_small_granule", "in a granule of 4 bytes the first or the second word is named, at the first granule and at the last of each partition",
     UP + b"".join(write(a, 1 << 16 * (a // 4 % 2)) + write(a, 1) + write(a + 3, 0) for a in (0, 4, 0xF4, 0x100, 0x1F4, 0x200, 0x244)),
-    lines((7, 0, 0), *[line for a in (0, 4, 0xF4, 0x100, 0x1F4, 0x200, 0x244) for line in ((2, 0, 0), (2, 4, a // 2 + a // 4 % 2), (2, 4, a // 2 + a // 4 % 2))]))
+    lines((7, 0, 0), *[line for a in (0, 4, 0xF4, 0x100, 0x1F4, 0x200, 0x244) for line in [(2, 0, 0)] + [(2, 4, a // 2 + a // 4 % 2)] * 2]))
 run("word_of_a_digest", "the words of a software digest: the lowest that is not blank is named, wherever in it the write is",
     UP + write(0xF8, 1 << 32) + b"".join(write(a, 1) for a in (0xF8, 0xFB, 0xFC, 0xFF)) + write(0x1FC, (1 << 48) + (1 << 16)) + write(0x1F8, 0),
     lines((7, 0, 0), (2, 0, 0), *[(2, 4, 0x7E)] * 4, (2, 0, 0), (2, 4, 0xFD)))
@@ -286,10 +296,12 @@ run("locked_names_no_word", "a locked partition answers 5 with value 0 first: th
 run("locked_secret_names_no_word", "a secret partition names a word until a digest command and a power-up have locked it, and no word after that",
     UP + write(0x250, HASHES[TEST_UNLOCK] % 2**64) + write(0x250, 0) + digest(0x250) + digest(0x250) + UP + write(0x250, 0) + write(0x258, 0) + digest(0x250))
 run("read_locked_names_a_word", "a read lock stops no write, and so a 4 names a word that can't be read",
-    UP + write(0x100, 1 << 16) + lock(1) + read(0x100) + write(0x100, 1) + write(0x104, 1), lines((7, 0, 0), (2, 0, 0), (5, 0, 0), (1, 5, 0), (2, 4, 0x81), (2, 0, 0)))
+    UP + write(0x100, 1 << 16) + lock(1) + read(0x100) + write(0x100, 1) + write(0x104, 1),
+    lines((7, 0, 0), (2, 0, 0), (5, 0, 0), (1, 5, 0), (2, 4, 0x81), (2, 0, 0)))
 
 # ---- what the paper leaves to its general rules
-run("target_equals_state", "a target equal to the state is not in the table: the stroke is spent, then 0x21", UP + move(1, RAW_TOKEN) + UP + move(1, RAW_TOKEN) + UP,
+run("target_equals_state", "a target equal to the state is not in the table: the stroke is spent, then 0x21",
+    UP + move(1, RAW_TOKEN) + UP + move(1, RAW_TOKEN) + UP,
     lines((7, 0, 0), (6, 0, 0), (7, 0, 257), (6, 0x21, 0), (7, 0, 513)))
 run("target_21_without_strokes", "0x11 comes before 0x20", UP + move(21) + read(0), lines((7, 0, 6144), (6, 0x11, 0), (1, 0, 0)), life(24, state(0)))
 run("test_to_rma", "TEST_UNLOCKED0 to RMA needs no token", UP + move(19) + UP, lines((7, 0, 257), (6, 0, 0), (7, 0, 531)), life(1, state(1)))
@@ -299,28 +311,34 @@ run("too_long_without_files", "a script that is too long comes before the files"
 
 # ---- targets
 run("target_21", "a target above 20 answers 0x11 and leaves Ready", UP + move(21, RAW_TOKEN) + read(0), lines((7, 0, 0), (6, 0x11, 0), (1, 0, 0)))
+EDGES = (0, 0xF8, 0x100, 0x1F8, 0x200, 0x248, 0x250, 0x270, 0x278, 0x2C8, 0x2D0, 0x320, 0x328, 0x380)
 run("addresses_at_edges", "reads, writes and front reads at both sides of every edge of the map",
-    UP + b"".join(read(a + d) + front(a + d) + write(a + d, 1) for a in (0, 0xF8, 0x100, 0x1F8, 0x200, 0x248, 0x250, 0x270, 0x278, 0x2C8, 0x2D0, 0x320, 0x328, 0x380) for d in (-4, -1, 0, 3) if a + d >= 0) + read(0xFFFFFFFF))
+    UP + b"".join(read(a + d) + front(a + d) + write(a + d, 1) for a in EDGES for d in (-4, -1, 0, 3) if a + d >= 0) + read(0xFFFFFFFF))
 
 # ---- a full provisioning
-TOKENS = b"".join(write(a, HASHES[token] % 2**64) + write(a + 8, HASHES[token] >> 64) for a, token in ((0x250, TEST_UNLOCK), (0x260, TEST_EXIT), (0x2D0, RMA_TOKEN)))
+PLACES = ((0x250, TEST_UNLOCK), (0x260, TEST_EXIT), (0x2D0, RMA_TOKEN))
+TOKENS = b"".join(write(a, HASHES[token] % 2**64) + write(a + 8, HASHES[token] >> 64) for a, token in PLACES)
 FILL = (b"".join(write(a, 0x01010101 * (a % 251) + a) for a in range(0, 0xF8, 4)) + b"".join(write(a, 0x10001 * a) for a in range(0x100, 0x1F8, 4))
         + b"".join(write(a, 0xD00D0000 + a) for a in range(0x200, 0x248, 4)) + TOKENS
-        + b"".join(write(a, 0x0123456789ABCDEF ^ a) for a in range(0x278, 0x2C8, 8)) + b"".join(write(a, 0xFEDCBA9876543210 ^ a) for a in range(0x2E0, 0x320, 8)))
+        + b"".join(write(a, 0x0123456789ABCDEF ^ a) for a in range(0x278, 0x2C8, 8))
+        + b"".join(write(a, 0xFEDCBA9876543210 ^ a) for a in range(0x2E0, 0x320, 8)))
 DIGESTS = digest(0x200) + digest(0x250) + digest(0x278) + digest(0x2D0) + write(0x0F8, 0x10000C0DE) + write(0x1FC, 0xFEED00000002)
 SHOW = b"".join(read(a) for a in range(0, 0x380, 0x24)) + b"".join(front(a) for a in range(0x200, 0x220, 4)) + read(0x248) + read(0x270) + read(0x320)
 TRY = b"".join(write(a, 0xFFFFFFFFFFFFFFFF) + digest(a) for a in (0, 0x100, 0x200, 0x250, 0x278, 0x2D0))
-run("provisioning", "all partitions written, digests, a power-up; then locked reads and writes, and front reads of the DEVICE_ID", UP + FILL + SHOW + DIGESTS + SHOW + UP + SHOW + TRY + lock(0) + lock(1) + lock(2) + SHOW)
+run("provisioning", "all partitions written, digests, a power-up; then locked reads and writes, and front reads of the DEVICE_ID",
+    UP + FILL + SHOW + DIGESTS + SHOW + UP + SHOW + TRY + lock(0) + lock(1) + lock(2) + SHOW)
 
 # ---- a life cycle course, and every stroke
-COURSE = (UP + FILL + digest(0x250) + digest(0x2D0) + UP + move(1, RAW_TOKEN ^ 1) + UP + move(1, RAW_TOKEN) + UP + move(2) + UP + move(3, TEST_UNLOCK ^ (1 << 127)) + UP
-          + move(3, TEST_UNLOCK) + UP + move(16, TEST_UNLOCK) + UP + move(16, TEST_EXIT) + UP + move(19, TEST_EXIT) + UP + move(19, RMA_TOKEN) + UP + move(16) + UP + move(20) + UP + read(0) + UP)
+COURSE = (UP + FILL + digest(0x250) + digest(0x2D0) + UP + move(1, RAW_TOKEN ^ 1) + UP + move(1, RAW_TOKEN) + UP + move(2) + UP
+          + move(3, TEST_UNLOCK ^ (1 << 127)) + UP + move(3, TEST_UNLOCK) + UP + move(16, TEST_UNLOCK) + UP + move(16, TEST_EXIT) + UP
+          + move(19, TEST_EXIT) + UP + move(19, RMA_TOKEN) + UP + move(16) + UP + move(20) + UP + read(0) + UP)
 run("life_cycle_course", "RAW through TEST, DEV and RMA to SCRAP, with right and wrong tokens", COURSE)
 run("digest_again", "a digest command over its digest answers 4, before and after more data; the power-up then fails",
     UP + write(0x200, 1) + digest(0x200) + digest(0x200) + write(0x204, 2) + digest(0x200) + read(0x248) + UP)
 LOCKED = UP + TOKENS + digest(0x250) + digest(0x2D0) + UP + move(1, RAW_TOKEN) + UP
 run("prod_to_rma", "TEST_UNLOCKED0 to PROD with TEST_EXIT, and PROD to RMA with the RMA token", LOCKED + move(17, TEST_EXIT) + UP + move(19, RMA_TOKEN) + UP)
-run("prod_end_to_scrap", "TEST_UNLOCKED0 to PROD_END, which goes to SCRAP and not to RMA", LOCKED + move(18, TEST_EXIT) + UP + move(19, RMA_TOKEN) + UP + move(20) + UP)
+run("prod_end_to_scrap", "TEST_UNLOCKED0 to PROD_END, which goes to SCRAP and not to RMA",
+    LOCKED + move(18, TEST_EXIT) + UP + move(19, RMA_TOKEN) + UP + move(20) + UP)
 run("all_strokes", "24 strokes spent on wrong tokens, then 0x20", UP + (move(1, 5) + UP) * 26)
 
 # ---- tokens by their hashes
@@ -341,7 +359,8 @@ run("token_zero", "the token zero has a hash like any other", UP + move(1, 0) + 
 run("token_zero_stored", "zero stored is no hash of zero", UP + move(1, 0) + UP, REFUSED, consts=with_raw(GOOD, 0))
 
 # ---- power-ups that fail
-run("invalid_life_cycle", "a state word that is neither A nor B: 7 with 0xFFFF", UP + read(0) + UP, lines((7, 7, 0xFFFF), (1, 7, 0), (7, 7, 0xFFFF)), with_word(life(3, state(5)), 440, 0x7777))
+run("invalid_life_cycle", "a state word that is neither A nor B: 7 with 0xFFFF", UP + read(0) + UP, lines((7, 7, 0xFFFF), (1, 7, 0), (7, 7, 0xFFFF)),
+    with_word(life(3, state(5)), 440, 0x7777))
 run("count_0_with_a_state", "count 0 with a state other than RAW: 7 with 0xFFFF", UP, lines((7, 7, 0xFFFF)), [0] * 428 + state(1))
 run("scrap", "SCRAP: 7 with 256 times count plus state", UP + move(20), lines((7, 7, 256 * 9 + 20), (6, 7, 0)), life(9, state(20)))
 for partition, (digest_word, start) in {2: (292, 0x200), 3: (312, 0x250), 4: (356, 0x278), 5: (400, 0x2D0)}.items():
