@@ -3,6 +3,7 @@
 use libc::STDIN_FILENO;
 use libc::STDOUT_FILENO;
 use model::Session;
+use partitions::MapName;
 use transcript::Course;
 ghost use mathlib.Core.Path.{_≡_};
 ghost use Prim.Native.Nat.{_+_, _≤_};
@@ -33,17 +34,24 @@ fn script_buffer() -> [u8; 65537]
     [0; 65537]
 }
 
-// A word more than the image has.
-fn file_buffer() -> [u8; 898]
-    ensures { λ r. ⌜ 898 ≡ length r ⌝ }
+// A word more than the larger image has.
+fn file_buffer() -> [u8; 1482]
+    ensures { λ r. ⌜ 1482 ≡ length r ⌝ }
 {
-    [0; 898]
+    [0; 1482]
 }
 
-fn cells_buffer() -> [u16; 449]
-    ensures { λ r. ⌜ 449 ≡ length r ⌝ }
+fn cells_buffer() -> [u16; 741]
+    ensures { λ r. ⌜ 741 ≡ length r ⌝ }
 {
-    [0; 449]
+    [0; 741]
+}
+
+// As many words as a fit map may have.
+fn copy_buffer() -> [u16; 1024]
+    ensures { λ r. ⌜ 1024 ≡ length r ⌝ }
+{
+    [0; 1024]
 }
 
 fn constants_buffer() -> [u16; 133]
@@ -72,13 +80,20 @@ fn read_file(path: &[u8], bytes: &mut [u8]) -> usize
     n
 }
 
+// Fills words from bytes, and says how many they are.
+fn words_of(bytes: &[u8], words: &mut [u16]) -> usize
+    ensures { λ r. ⌜ (r ≤ length (now (words .exit))) × (r ≡ length (take r (now (words .exit)))) ⌝ }
+{
+    transcript::file_words(bytes, words)
+}
+
 // Fills words from a file, and says how many it has. A file with more words than there is room for is too long in any case.
 fn read_words(path: &[u8], words: &mut [u16]) -> usize
     ensures { λ r. ⌜ (r ≤ length (now (words .exit))) × (r ≡ length (take r (now (words .exit)))) ⌝ }
 {
     let mut bytes = file_buffer();
     let n = read_file(path, &mut bytes);
-    transcript::file_words(&bytes[..n], words)
+    words_of(&bytes[..n], words)
 }
 
 // Writes the lines that wait; false where not all were taken.
@@ -129,13 +144,14 @@ fn take_turn(
     cells: &mut [u16],
     copy: &mut [u16],
     constants: &[u16],
+    map: MapName,
     out: &mut [u8],
     at: Progress,
 ) -> Progress
     requires { ⌜ (at .waiting .used ≤ length (now out)) × (23 ≤ length (now out)) ⌝ }
     ensures { λ r. ⌜ r .waiting .used ≤ length (now (out .entry)) ⌝ }
 {
-    let t = transcript::turn(script, at.place, cells, copy, constants, at.session);
+    let t = transcript::turn(script, at.place, cells, copy, constants, map, at.session);
     let course = t.course;
     let session = t.session;
     let before = at.waiting;
@@ -163,6 +179,7 @@ fn take_turns(
     cells: &mut [u16],
     copy: &mut [u16],
     constants: &[u16],
+    map: MapName,
     out: &mut [u8],
 ) -> Progress
     requires { ⌜ 23 ≤ length (now out) ⌝ }
@@ -180,7 +197,7 @@ fn take_turns(
     };
     let mut left = MOST_TURNS;
     while left > 0 && at.going {
-        at = take_turn(script, cells, copy, constants, out, at);
+        at = take_turn(script, cells, copy, constants, map, out, at);
         left -= 1;
     }
     at
@@ -195,9 +212,15 @@ fn write_end(count: u64) -> bool {
 }
 
 // Writes the lines of a script and its end line; false where not all were taken.
-fn rehearse(script: &[u8], cells: &mut [u16], copy: &mut [u16], constants: &[u16]) -> bool {
+fn rehearse(
+    script: &[u8],
+    cells: &mut [u16],
+    copy: &mut [u16],
+    constants: &[u16],
+    map: MapName,
+) -> bool {
     let mut out = lines_buffer();
-    let at = take_turns(script, cells, copy, constants, &mut out);
+    let at = take_turns(script, cells, copy, constants, map, &mut out);
     let waiting = at.waiting;
     if waiting.written {
         let written = write_out(&out, waiting.used);
@@ -208,20 +231,29 @@ fn rehearse(script: &[u8], cells: &mut [u16], copy: &mut [u16], constants: &[u16
     false
 }
 
-// Rehearses standard input over `image.bin` and `constants.bin`, from a fresh session record and a zero copy.
+// The same over cells and constants, from a fresh session record and a zero copy.
+fn rehearse_on(script: &[u8], cells: &mut [u16], constants: &[u16], map: MapName) -> bool {
+    let mut copy = copy_buffer();
+    let words = map.words();
+    rehearse(script, cells, &mut copy[..words], constants, map)
+}
+
+// Rehearses standard input over `image.bin` and `constants.bin`; the image's size tells the map.
 fn main() {
     let mut script = script_buffer();
     let n = io::read_full(STDIN_FILENO, &mut script);
+    let mut image = file_buffer();
+    let image_count = read_file(b"image.bin", &mut image);
     let mut cells = cells_buffer();
-    let cell_count = read_words(b"image.bin", &mut cells);
+    let cell_count = words_of(&image[..image_count], &mut cells);
     let mut constants = constants_buffer();
     let constant_count = read_words(b"constants.bin", &mut constants);
-    let mut copy = [0u16; 448];
-    let written = rehearse(
+    let map = transcript::map_for(&image[..image_count]);
+    let written = rehearse_on(
         &script[..n],
         &mut cells[..cell_count],
-        &mut copy,
         &constants[..constant_count],
+        map,
     );
     if !written {
         os::fail(b"bench: standard output");

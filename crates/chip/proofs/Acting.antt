@@ -9,7 +9,7 @@ use Rattle.basics.proofs.Choice.{by-cases, if-true, if-false}
 use Rattle.words.specs.declared.Rule.{Rule}
 use Rattle.words.specs.declared.Programmed.the-variants as programmed
 use Rattle.words.specs.Programming.{programAnswer, programCells}
-use Rattle.partitions.specs.Map1.{map1}
+use Rattle.partitions.specs.Map.{Map}
 use Rattle.model.specs.declared.Answer.{Answer}
 use Rattle.model.specs.declared.Answer.the-variants.{NotBlank, NotReady}
 use Rattle.model.specs.declared.Command.{Command}
@@ -28,12 +28,12 @@ use Rattle.chip.proofs.Judging.{accepted-step, refused-step}
 use Rattle.chip.proofs.Admission.{by-judged, accepted-not-refused, not-accepted, phase-not-ready, phase-ready, admitted}
 
 -- the judgement of what a machine is lent
-abbrev pub judged : Machine → Judged
-judged m = judgedOf (length (m .lent .cells)) (length (m .lent .copy)) (m .lent .constants)
+abbrev pub judged : Map → Machine → Judged
+judged map m = judgedOf map (length (m .lent .cells)) (length (m .lent .copy)) (m .lent .constants)
 
 -- and its admission
-abbrev pub admission : Machine → Judged
-admission m = admittedOf (length (m .lent .cells)) (length (m .lent .copy)) (m .lent .constants) (m .session .phase)
+abbrev pub admission : Map → Machine → Judged
+admission map m = admittedOf map (length (m .lent .cells)) (length (m .lent .copy)) (m .lent .constants) (m .session .phase)
 
 -- what an act comes to on a machine
 pub comesTo : Act → Machine → Result
@@ -49,15 +49,15 @@ Acting (ReadLock number) = Unit {0}
 Acting (Transition target high low) = Unit {0}
 Acting PowerUp = ⊥
 
-obeyed : (x : Command) (m : Machine) → Acting x → obey primitives map1 x m ≡ act primitives map1 x m
+obeyed : (map : Map) (x : Command) (m : Machine) → Acting x → obey primitives map x m ≡ act primitives map x m
 unfolding obey
-obeyed (Read a) m h = refl
-obeyed (Write a value) m h = refl
-obeyed (FrontRead a) m h = refl
-obeyed (Digest a) m h = refl
-obeyed (ReadLock number) m h = refl
-obeyed (Transition target high low) m h = refl
-obeyed PowerUp m h = absurd h
+obeyed map (Read a) m h = refl
+obeyed map (Write a value) m h = refl
+obeyed map (FrontRead a) m h = refl
+obeyed map (Digest a) m h = refl
+obeyed map (ReadLock number) m h = refl
+obeyed map (Transition target high low) m h = refl
+obeyed map PowerUp m h = absurd h
 
 -- ---- an act, by what it is
 
@@ -93,22 +93,22 @@ module _ (m : Machine) where
 
 -- ---- a command, by its admission
 
-module _ (x : Command) (m : Machine) (acts : Acting x) where
-  decided : judged m ≡ Accepted → resultFor x m ≡ comesTo (readyAct primitives map1 m x) m
+module _ (map : Map) (x : Command) (m : Machine) (acts : Acting x) where
+  decided : judged map m ≡ Accepted → resultFor map x m ≡ comesTo (readyAct primitives map m x) m
   unfolding comesTo act
-  decided e = ap (λ (s : Step). s .result) (accepted-step x m e ∙ obeyed x m acts)
+  decided e = ap (λ (s : Step). s .result) (accepted-step map x m e ∙ obeyed map x m acts)
 
-  not-ready : judged m ≡ Accepted → isReady (m .session .phase) ≡ false → record { machine = m; answer = NotReady } ≡ resultFor x m
+  not-ready : judged map m ≡ Accepted → isReady (m .session .phase) ≡ false → record { machine = m; answer = NotReady } ≡ resultFor map x m
   unfolding readyAct turned
   not-ready e r = sym (decided e ∙ ap (λ (a : Act). comesTo a m) (if-true (refuse NotReady) _ (ap not r)) ∙ said m NotReady stay)
 
   -- refused: nothing changes
-  pub refused : (a : Answer) → admission m ≡ Refused a → record { machine = m; answer = a } ≡ resultFor x m
+  pub refused : (a : Answer) → admission map m ≡ Refused a → record { machine = m; answer = a } ≡ resultFor map x m
   refused a h =
       let s = m .session .phase in
-      by-judged (judged m)
-      (λ e. by-cases (isReady s) (λ r. absurd (accepted-not-refused (sym (phase-ready _ _ _ s e r) ∙ h))) (λ r. ap result (same (sym h ∙ phase-not-ready _ _ _ s e r)) ∙ not-ready e r))
-      (λ b e. ap result (same (sym h ∙ not-accepted _ _ _ s b e)) ∙ refused-step x m b e)
+      by-judged (judged map m)
+      (λ e. by-cases (isReady s) (λ r. absurd (accepted-not-refused (sym (phase-ready map _ _ _ s e r) ∙ h))) (λ r. ap result (same (sym h ∙ phase-not-ready map _ _ _ s e r)) ∙ not-ready e r))
+      (λ b e. ap result (same (sym h ∙ not-accepted map _ _ _ s b e)) ∙ refused-step map x m b e)
     where
       result : Answer → Result
       result b = record { machine = m; answer = b }
@@ -117,8 +117,8 @@ module _ (x : Command) (m : Machine) (acts : Acting x) where
       same q = cc
 
   -- admitted: the result is what the command's act comes to
-  pub acted : admission m ≡ Accepted → resultFor x m ≡ comesTo (commandAct primitives map1 m x) m
+  pub acted : admission map m ≡ Accepted → resultFor map x m ≡ comesTo (commandAct primitives map m x) m
   unfolding readyAct
   acted h =
-      let q = admitted _ _ _ (m .session .phase) h in
+      let q = admitted map _ _ _ (m .session .phase) h in
       decided (q .0) ∙ ap (λ (a : Act). comesTo a m) (if-false _ _ (ap not (q .1)))

@@ -5,6 +5,7 @@ use mathlib.Core.List.{List}
 use Prim.Native.Nat.{ℕ}
 use native.Mathlib.Omega.{arith}
 use Rattle.basics.proofs.Choice.{by-cases, if-true, if-false}
+use Rattle.partitions.specs.Map.{Map}
 use Rattle.model.specs.declared.Phase.{Phase}
 use Rattle.model.specs.declared.Answer.{Answer}
 use Rattle.model.specs.declared.Answer.the-variants.{NotReady}
@@ -22,21 +23,21 @@ by-judged (Refused a) f g = g a refl
 pub accepted-not-refused : {a : Answer} → Accepted ≡ Refused a → ⊥
 accepted-not-refused e = let z : _≡_ {A = ℕ} 0 1 = cc in omega arith
 
-module _ (cells copy : ℕ) (k : List ℕ) (phase : Phase) where
-  pub not-accepted : (a : Answer) → judgedOf cells copy k ≡ Refused a → admittedOf cells copy k phase ≡ Refused a
+module _ (map : Map) (cells copy : ℕ) (k : List ℕ) (phase : Phase) where
+  pub not-accepted : (a : Answer) → judgedOf map cells copy k ≡ Refused a → admittedOf map cells copy k phase ≡ Refused a
   unfolding admittedOf atPhase
   not-accepted a e = rw e
 
-  pub phase-not-ready : judgedOf cells copy k ≡ Accepted → isReady phase ≡ false → admittedOf cells copy k phase ≡ Refused NotReady
+  pub phase-not-ready : judgedOf map cells copy k ≡ Accepted → isReady phase ≡ false → admittedOf map cells copy k phase ≡ Refused NotReady
   unfolding admittedOf atPhase
   phase-not-ready e r = rw (e, r) (if-false _ _ refl)
 
-  pub phase-ready : judgedOf cells copy k ≡ Accepted → isReady phase ≡ true → admittedOf cells copy k phase ≡ Accepted
+  pub phase-ready : judgedOf map cells copy k ≡ Accepted → isReady phase ≡ true → admittedOf map cells copy k phase ≡ Accepted
   unfolding admittedOf atPhase
   phase-ready e r = rw (e, r) (if-true _ _ refl)
 
-  pub admitted : admittedOf cells copy k phase ≡ Accepted → (judgedOf cells copy k ≡ Accepted) × (isReady phase ≡ true)
+  pub admitted : admittedOf map cells copy k phase ≡ Accepted → (judgedOf map cells copy k ≡ Accepted) × (isReady phase ≡ true)
   admitted h =
-      by-judged (judgedOf cells copy k)
+      by-judged (judgedOf map cells copy k)
       (λ e. by-cases (isReady phase) (λ r. (e, r)) (λ r. absurd (accepted-not-refused (sym h ∙ phase-not-ready e r))))
       (λ a e. absurd (accepted-not-refused (sym h ∙ not-accepted a e)))

@@ -2,3 +2,4 @@ pub mod Judging
 pub mod Admission
 pub mod Reading
 pub mod Acting
+pub mod LifeCyclePlace

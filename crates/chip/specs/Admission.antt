@@ -2,6 +2,7 @@
 use Prim.Native.Nat.{ℕ}
 use mathlib.Core.List.{List}
 use Rattle.basics.specs.Choice.{if_then_else_}
+use Rattle.partitions.specs.Map.{Map}
 use Rattle.model.specs.declared.Phase.{Phase}
 use Rattle.model.specs.declared.Answer.the-variants.{NotReady}
 use Rattle.model.specs.Session.{isReady}
@@ -14,5 +15,5 @@ unfoldable pub atPhase : Phase → Judged → Judged
 atPhase phase (Refused answer) = Refused answer
 atPhase phase Accepted = if isReady phase then Accepted else Refused NotReady
 
-unfoldable pub admittedOf : ℕ → ℕ → List ℕ → Phase → Judged
-admittedOf cells copy constants phase = atPhase phase (judgedOf cells copy constants)
+unfoldable pub admittedOf : Map → ℕ → ℕ → List ℕ → Phase → Judged
+admittedOf map cells copy constants phase = atPhase phase (judgedOf map cells copy constants)

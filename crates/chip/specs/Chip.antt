@@ -1,10 +1,10 @@
--- The chip that the code is proved against: the model at PRESENT, the digest, the hash of tokens and Map 1.
+-- The chip that the code is proved against: the model at PRESENT, the digest and the hash of tokens, over any map.
 use Prim.Native.Nat.{ℕ}
 use mathlib.Core.List.{List}
 use Rattle.present.specs.Present.{encryptBlock, decryptBlock}
 use Rattle.digest.specs.Digest.{digestWords}
 use Rattle.token_hash.specs.TokenHash.{tokenHash}
-use Rattle.partitions.specs.Map1.{map1}
+use Rattle.partitions.specs.Map.{Map}
 use Rattle.model.specs.declared.Session.{Session}
 use Rattle.model.specs.declared.Command.{Command}
 use Rattle.model.specs.declared.Outcome.{Outcome}
@@ -23,5 +23,5 @@ abbrev pub resultOf : List ℕ → List ℕ → List ℕ → Outcome → Result
 resultOf cells copy constants outcome = record { machine = machineOf cells copy constants (outcome .session); answer = outcome .answer }
 
 -- what the model makes of a command
-abbrev pub resultFor : Command → Machine → Result
-resultFor x m = step primitives map1 x m .result
+abbrev pub resultFor : Map → Command → Machine → Result
+resultFor map x m = step primitives map x m .result

@@ -3,15 +3,16 @@ use model::Answer;
 use model::Phase;
 use model::Session;
 use partitions::Kind;
+use partitions::MapName;
 use partitions::Partition;
-use partitions::WORDS;
 use words::block_at;
 ghost use mathlib.Core.Path.{_≡_};
 ghost use Prim.Native.Nat.{_+_, _*_, _^_};
 ghost use Rattle.words.specs.Words.{numberOf, partAt};
 ghost use Rattle.digest.specs.Digest.{digestWords};
+ghost use Rattle.partitions.specs.Maps.{mapOf};
 ghost use Rattle.model.specs.Lent.{keyOf, digestStart, digestFinal};
-ghost use Rattle.model.specs.Commands.{storedDigest, scrambled, unscrambled};
+ghost use Rattle.model.specs.Commands.{storedDigest, scrambled, unscrambled, counterAt, stateAt};
 ghost use Rattle.chip.specs.Chip.{primitives};
 ghost use Rattle.chip.specs.Judging.{judgedOf};
 ghost use Rattle.chip.specs.Admission.{admittedOf};
@@ -37,13 +38,14 @@ pub enum Judged {
 }
 
 // Judges the lengths of cells and copy, and the constants, in the paper's order.
-pub fn judge(cells: usize, copy: usize, constants: &[u16]) -> Judged
-    ensures { λ r. ⌜ r ≡ judgedOf cells copy (now (constants .entry)) ⌝ }
+pub fn judge(cells: usize, copy: usize, constants: &[u16], map: MapName) -> Judged
+    ensures { λ r. ⌜ r ≡ judgedOf (mapOf map) cells copy (now (constants .entry)) ⌝ }
 {
-    if cells != WORDS {
+    let words = map.words();
+    if cells != words {
         return Judged::Refused(Answer::WrongLength);
     }
-    if copy != WORDS {
+    if copy != words {
         return Judged::Refused(Answer::WrongLength);
     }
     if constants.len() != CONSTANTS {
@@ -56,10 +58,16 @@ pub fn judge(cells: usize, copy: usize, constants: &[u16]) -> Judged
 }
 
 // What every command but power-up tests first: what is lent, then the phase.
-pub fn admit(cells: usize, copy: usize, constants: &[u16], session: Session) -> Judged
-    ensures { λ r. ⌜ r ≡ admittedOf cells copy (now (constants .entry)) (session .phase) ⌝ }
+pub fn admit(
+    cells: usize,
+    copy: usize,
+    constants: &[u16],
+    map: MapName,
+    session: Session,
+) -> Judged
+    ensures { λ r. ⌜ r ≡ admittedOf (mapOf map) cells copy (now (constants .entry)) (session .phase) ⌝ }
 {
-    match judge(cells, copy, constants) {
+    match judge(cells, copy, constants, map) {
         Judged::Refused(answer) => Judged::Refused(answer),
         Judged::Accepted => {
             let phase = session.phase;
@@ -98,6 +106,7 @@ pub fn key_of(constants: &[u16], kind: Kind) -> Halves
 {
     match kind {
         Kind::Software => Halves { high: 0, low: 0 },
+        Kind::AuthState => Halves { high: 0, low: 0 },
         Kind::HwCfg => Halves { high: 0, low: 0 },
         Kind::Secret0 => eight_words(constants, SECRET0_KEY),
         Kind::Secret1 => eight_words(constants, SECRET1_KEY),
@@ -146,4 +155,19 @@ pub fn digest_of(constants: &[u16], data: &[u16]) -> u64
     let start = block_at(constants, DIGEST_START);
     let key = eight_words(constants, DIGEST_FINAL);
     digest::digest(start, key.high, key.low, data)
+}
+
+// Where the 24 counter words of the life cycle start.
+pub fn counter_at(map: MapName) -> usize
+    ensures { λ r. ⌜ r ≡ counterAt (mapOf map) ⌝ }
+{
+    let partition = map.partition_of(map.number_of_kind(Kind::LifeCycle));
+    partition.start / 2
+}
+
+// Where its 20 state words start.
+pub fn state_at(map: MapName) -> usize
+    ensures { λ r. ⌜ r ≡ stateAt (mapOf map) ⌝ }
+{
+    counter_at(map) + 24
 }

@@ -1,6 +1,7 @@
--- Refusals, demand 3 and what goes beyond it, of the chip: PRESENT has the cipher's two laws, and Map 1 is fit.
-use Rattle.partitions.specs.Map1.{map1}
-use Rattle.partitions.proofs.Map1.{map1-fit}
+-- Refusals, demand 3 and what goes beyond it, of the chip: PRESENT has the cipher's two laws, and both maps are fit.
+use Rattle.partitions.specs.declared.MapName.{MapName}
+use Rattle.partitions.specs.Maps.{mapOf}
+use Rattle.partitions.proofs.Maps.{maps-fit}
 use Rattle.present.proofs.Inverse.{encrypt-lt, decrypt-encrypt}
 use Rattle.model.specs.Terms.{Cipher}
 use Rattle.model.specs.Refusals.{Refusals}
@@ -12,11 +13,12 @@ use Rattle.chip.specs.Chip.{primitives}
 pub present-cipher : Cipher primitives
 present-cipher = record { fits = encrypt-lt; back = decrypt-encrypt }
 
-pub chip-refusals : Refusals primitives map1
-chip-refusals = refusals primitives map1
+module _ (name : MapName) where
+  pub chip-refusals : Refusals primitives (mapOf name)
+  chip-refusals = refusals primitives (mapOf name)
 
-pub chip-demand3 : Demand3 primitives map1
-chip-demand3 = demand3 primitives present-cipher map1 map1-fit
+  pub chip-demand3 : Demand3 primitives (mapOf name)
+  chip-demand3 = demand3 primitives present-cipher (mapOf name) (maps-fit name)
 
-pub chip-beyond : Beyond primitives map1
-chip-beyond = beyond primitives present-cipher map1 map1-fit
+  pub chip-beyond : Beyond primitives (mapOf name)
+  chip-beyond = beyond primitives present-cipher (mapOf name) (maps-fit name)

@@ -8,36 +8,35 @@ use Rattle.basics.specs.Choice.{if_then_else_}
 use Rattle.basics.proofs.Choice.{if-true, if-false}
 use Rattle.words.specs.Words.{wordsOf}
 use Rattle.partitions.specs.declared.Partition.{Partition}
-use Rattle.partitions.specs.Map.{rightsOf, numberAt, partitionAt, limit, inDigest, firstWord, wordCount}
-use Rattle.partitions.specs.Map1.{map1}
+use Rattle.partitions.specs.Map.{Map, rightsOf, numberAt, partitionAt, limit, inDigest, firstWord, wordCount}
 use Rattle.model.specs.declared.Answer.the-variants.{Done, Denied}
 use Rattle.model.specs.declared.Command.{Command}
 use Rattle.model.specs.declared.Command.the-variants.{Read, Write, FrontRead, Digest}
 use Rattle.model.specs.Session.{sensedLocked}
 use Rattle.model.specs.Lent.{Machine}
 use Rattle.model.specs.Acts.{Act, stay, say, program, refuse}
-use Rattle.model.specs.Commands.{directRule, granule, scrambled, computedDigest, writeAct, readAct, frontReadAct, digestAct, commandAct}
+use Rattle.model.specs.Commands.{directRule, digestRule, granule, scrambled, computedDigest, writeAct, readAct, frontReadAct, digestAct, commandAct}
 use Rattle.chip.specs.Chip.{primitives}
 use Rattle.chip.proofs.Acting.{Acting}
 use Rattle.direct_access.specs.Access.{mayWrite, mayRead, mayFrontRead, mayDigest, readValue}
 
 -- an address past the map is refused, and so is a command that may not act
-unfoldable pub guarded : ℕ → Bool → Act → Act
-guarded a may go = if leb (limit map1) a then refuse Denied else if may then go else refuse Denied
+unfoldable pub guarded : Map → ℕ → Bool → Act → Act
+guarded map a may go = if leb (limit map) a then refuse Denied else if may then go else refuse Denied
 
-module _ (a : ℕ) (may : Bool) (go : Act) where
-  pub past-guard : limit map1 ≤ a → guarded a may go ≡ refuse Denied
+module _ (map : Map) (a : ℕ) (may : Bool) (go : Act) where
+  pub past-guard : limit map ≤ a → guarded map a may go ≡ refuse Denied
   unfolding guarded
   past-guard h = if-true _ _ (le-leb _ _ h)
 
-  pub guard-passed : a < limit map1 → guarded a may go ≡ (if may then go else refuse Denied)
+  pub guard-passed : a < limit map → guarded map a may go ≡ (if may then go else refuse Denied)
   unfolding guarded
   guard-passed h = if-false _ _ (lt-leb _ _ h)
 
 -- the command x on the address a is decided so: `may` tests the number and the partition of the address, and `go` is the act where it may
-pub record Decided (x : Command) (m : Machine) (a : ℕ) (may : ℕ → Partition → Bool) (go : Partition → Act) : Type 0 where
+pub record Decided (map : Map) (x : Command) (m : Machine) (a : ℕ) (may : ℕ → Partition → Bool) (go : Partition → Act) : Type 0 where
   pub acts : Acting x
-  pub decides : commandAct primitives map1 m x ≡ guarded a (may (numberAt map1 a) (partitionAt map1 a)) (go (partitionAt map1 a))
+  pub decides : commandAct primitives map m x ≡ guarded map a (may (numberAt map a) (partitionAt map a)) (go (partitionAt map a))
 
 -- ---- guards that refuse alike
 
@@ -78,25 +77,25 @@ unlocked false i c d x y = refl
 abbrev pub digestNow : Machine → Partition → ℕ
 digestNow m p = computedDigest primitives (m .lent .constants) p (m .lent .cells)
 
-module _ (m : Machine) (a : ℕ) where
-  pub read-decided : Decided (Read a) m a (λ n p. mayRead (m .session) n p a) (λ p. say (Done (readValue (m .lent .cells) (m .lent .constants) p a)) stay)
+module _ (map : Map) (m : Machine) (a : ℕ) where
+  pub read-decided : Decided map (Read a) m a (λ n p. mayRead (m .session) n p a) (λ p. say (Done (readValue (m .lent .cells) (m .lent .constants) p a)) stay)
   unfolding commandAct readAct mayRead readValue guarded
   read-decided = record { acts = tt; decides = rw unlocked }
 
-  pub front-decided : Decided (FrontRead a) m a (λ n p. mayFrontRead p a) (λ p. say (Done (granule p (m .lent .copy) a)) stay)
+  pub front-decided : Decided map (FrontRead a) m a (λ n p. mayFrontRead p a) (λ p. say (Done (granule p (m .lent .copy) a)) stay)
   unfolding commandAct frontReadAct mayFrontRead guarded
   front-decided = record { acts = tt; decides = rw two }
 
   pub write-decided : (value : ℕ)
-      → Decided (Write a value) m a (λ n p. mayWrite (m .session) n p a)
-      (λ p. program directRule (firstWord p a) (wordsOf (wordCount p a) (scrambled primitives (m .lent .constants) p value)) stay (say (Done 0) stay))
+      → Decided map (Write a value) m a (λ n p. mayWrite (m .session) n p a)
+      (λ p. program (directRule p a) (firstWord p a) (wordsOf (wordCount p a) (scrambled primitives (m .lent .constants) p value)) stay (say (Done 0) stay))
   unfolding commandAct writeAct mayWrite guarded
   write-decided value =
-      let p = partitionAt map1 a in
+      let p = partitionAt map a in
       let rights = rightsOf (p .kind) in
-      record { acts = tt; decides = rw (three (rights .direct) (rights .hardware && inDigest p a) (sensedLocked (m .session) (numberAt map1 a))) }
+      record { acts = tt; decides = rw (three (rights .direct) (rights .hardware && inDigest p a) (sensedLocked (m .session) (numberAt map a))) }
 
-  pub digest-decided : Decided (Digest a) m a (λ n p. mayDigest (m .session) n p a)
-      (λ p. program directRule (p .digest / 2) (wordsOf 4 (digestNow m p)) stay (say (Done (digestNow m p)) stay))
+  pub digest-decided : Decided map (Digest a) m a (λ n p. mayDigest (m .session) n p a)
+      (λ p. program digestRule (p .digest / 2) (wordsOf 4 (digestNow m p)) stay (say (Done (digestNow m p)) stay))
   unfolding commandAct digestAct mayDigest guarded
   digest-decided = record { acts = tt; decides = rw three-of }

@@ -1,5 +1,6 @@
--- The place that a command on an address reaches. The idea: an address below 0x380 lies in one partition of Map 1, and its granule in the 448 words.
+-- The place that a command on an address reaches. The idea: an address below the limit lies in one partition of a fit map, and its granule in the words.
 use mathlib.Core.Path.{_≡_, sym, ap, _∙_}
+use mathlib.Core.Bool.{true}
 use mathlib.Core.List.{List}
 use Prim.Native.Nat.{ℕ, _+_, _-_, _/_, _≤_, _<_}
 use native.Mathlib.Omega.{arith}
@@ -11,11 +12,10 @@ use Rattle.basics.proofs.Choice.{by-cases, if-true, if-false}
 use Rattle.words.specs.Words.{numberOf}
 use Rattle.words.proofs.Parts.{part-slice}
 use Rattle.partitions.specs.declared.Partition.{Partition}
-use Rattle.partitions.specs.Map.{numberAt, partitionAt, limit, firstWord, wordCount}
-use Rattle.partitions.specs.Map1.{map1}
+use Rattle.partitions.specs.Map.{Map, numberAt, partitionAt, limit, firstWord, wordCount}
+use Rattle.partitions.specs.Fitness.{fit}
 use Rattle.partitions.proofs.Map.{inside, end-within}
 use Rattle.partitions.proofs.Granules.{granule-inside, granule-within}
-use Rattle.partitions.proofs.Map1.{map1-fit, map1-limit}
 use Rattle.model.specs.declared.Phase.{Phase}
 use Rattle.model.specs.declared.Answer.{Answer}
 use Rattle.model.specs.declared.Answer.the-variants.{Denied}
@@ -37,23 +37,23 @@ granule-slice ws p a at n e f l u =
     let whole = length-take-le (wordCount p a) (drop w ws) (rw length-drop (omega arith)) in
     rw (s, e, f) (ap numberOf (take-all 4 _ (omega (arith, whole)) ∙ sym (part-slice ws w (wordCount p a) l)))
 
-module _ (cells copy : ℕ) (k : List ℕ) (phase : Phase) (a : ℕ) where
+module _ (map : Map) (cells copy : ℕ) (k : List ℕ) (phase : Phase) (a : ℕ) where
   -- ---- what the code finds
 
-  pub not-admitted : (b : Answer) → admittedOf cells copy k phase ≡ judged.Refused b → reachedOf cells copy k phase a ≡ Refused b
+  pub not-admitted : (b : Answer) → admittedOf map cells copy k phase ≡ judged.Refused b → reachedOf map cells copy k phase a ≡ Refused b
   unfolding reachedOf placeOf
   not-admitted b e = rw e
 
-  placed : admittedOf cells copy k phase ≡ judged.Accepted
-      → reachedOf cells copy k phase a ≡ placeOf judged.Accepted a
+  placed : admittedOf map cells copy k phase ≡ judged.Accepted
+      → reachedOf map cells copy k phase a ≡ placeOf map judged.Accepted a
   unfolding reachedOf
-  placed e = ap (λ j. placeOf j a) e
+  placed e = ap (λ j. placeOf map j a) e
 
-  pub past-map : admittedOf cells copy k phase ≡ judged.Accepted → limit map1 ≤ a → reachedOf cells copy k phase a ≡ Refused Denied
+  pub past-map : admittedOf map cells copy k phase ≡ judged.Accepted → limit map ≤ a → reachedOf map cells copy k phase a ≡ Refused Denied
   unfolding placeOf
   past-map e h = placed e ∙ if-true _ _ (le-leb _ _ h)
 
-  pub in-map : admittedOf cells copy k phase ≡ judged.Accepted → a < limit map1 → reachedOf cells copy k phase a ≡ At (numberAt map1 a) (partitionAt map1 a)
+  pub in-map : admittedOf map cells copy k phase ≡ judged.Accepted → a < limit map → reachedOf map cells copy k phase a ≡ At (numberAt map a) (partitionAt map a)
   unfolding placeOf
   in-map e h = placed e ∙ if-false _ _ (lt-leb _ _ h)
 
@@ -61,32 +61,32 @@ module _ (cells copy : ℕ) (k : List ℕ) (phase : Phase) (a : ℕ) where
 
   -- n and p are the number and the partition of the address
   pub record Place (n : ℕ) (p : Partition) : Type 0 where
-    pub admitted-there : admittedOf cells copy k phase ≡ judged.Accepted
-    pub within : a < limit map1
-    pub number : n ≡ numberAt map1 a
-    pub found : p ≡ partitionAt map1 a
-    pub cells-held : cells ≡ 448
-    pub copy-held : copy ≡ 448
+    pub admitted-there : admittedOf map cells copy k phase ≡ judged.Accepted
+    pub within : a < limit map
+    pub number : n ≡ numberAt map a
+    pub found : p ≡ partitionAt map a
+    pub cells-held : cells ≡ limit map / 2
+    pub copy-held : copy ≡ limit map / 2
 
   -- the address is refused for want of admission, or lies past the map; or it has a place
-  pub by-place {ℓ} : {X : Type ℓ} → ((b : Answer) → admittedOf cells copy k phase ≡ judged.Refused b → X)
-      → (admittedOf cells copy k phase ≡ judged.Accepted → limit map1 ≤ a → X) → (admittedOf cells copy k phase ≡ judged.Accepted → a < limit map1 → X) → X
+  pub by-place {ℓ} : {X : Type ℓ} → ((b : Answer) → admittedOf map cells copy k phase ≡ judged.Refused b → X)
+      → (admittedOf map cells copy k phase ≡ judged.Accepted → limit map ≤ a → X) → (admittedOf map cells copy k phase ≡ judged.Accepted → a < limit map → X) → X
   by-place f g h =
-      by-judged (admittedOf cells copy k phase)
-      (λ e. by-cases (leb (limit map1) a) (λ t. g e (leb-true _ _ t)) (λ t. h e (leb-false _ _ t))) f
+      by-judged (admittedOf map cells copy k phase)
+      (λ e. by-cases (leb (limit map) a) (λ t. g e (leb-true _ _ t)) (λ t. h e (leb-false _ _ t))) f
 
   refused-not-at : {b : Answer} {n : ℕ} {p : Partition} → Refused b ≡ At n p → ⊥
   refused-not-at e = let z : _≡_ {A = ℕ} 0 1 = cc in omega arith
 
-  pub reached-at : (n : ℕ) (p : Partition) → reachedOf cells copy k phase a ≡ At n p → Place n p
+  pub reached-at : (n : ℕ) (p : Partition) → reachedOf map cells copy k phase a ≡ At n p → Place n p
   reached-at n p r =
       by-place (λ b e. absurd (refused-not-at (sym (not-admitted b e) ∙ r))) (λ e h. absurd (refused-not-at (sym (past-map e h) ∙ r)))
       there
     where
-      there : admittedOf cells copy k phase ≡ judged.Accepted → a < limit map1 → Place n p
+      there : admittedOf map cells copy k phase ≡ judged.Accepted → a < limit map → Place n p
       there e h =
-          let s : At (numberAt map1 a) (partitionAt map1 a) ≡ At n p = sym (in-map e h) ∙ r in
-          let t = accepted-right cells copy k (admitted cells copy k phase e .0) in
+          let s : At (numberAt map a) (partitionAt map a) ≡ At n p = sym (in-map e h) ∙ r in
+          let t = accepted-right map cells copy k (admitted map cells copy k phase e .0) in
           record {
             admitted-there = e;
             within = h;
@@ -104,17 +104,16 @@ module _ (cells copy : ℕ) (k : List ℕ) (phase : Phase) (a : ℕ) where
     pub data-first : p .start ≤ p .digest
     pub data-in-cells : p .digest / 2 ≤ cells
 
-  pub held : (n : ℕ) (p : Partition) → reachedOf cells copy k phase a ≡ At n p → Held p
+  pub held : fit map ≡ true → (n : ℕ) (p : Partition) → reachedOf map cells copy k phase a ≡ At n p → Held p
   unfolding partitionAt
-  held n p r =
+  held fits n p r =
       let l = reached-at n p r in
       let h = l .within in
-      let i = inside map1 map1-fit h in
-      let w = granule-within map1 map1-fit h in
-      let u = end-within map1 map1-fit (i .known) in
+      let i = inside map fits h in
+      let w = granule-within map fits h in
+      let u = end-within map fits (i .known) in
       let f = i .fits in
-      let few = granule-inside map1 map1-fit h .few in
-      let e = map1-limit in
+      let few = granule-inside map fits h .few in
       rw (l .found)
       (record {
         granule-in-cells = omega (arith, l .cells-held);

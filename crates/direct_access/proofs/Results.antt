@@ -12,8 +12,7 @@ use Rattle.words.specs.declared.Rule.{Rule}
 use Rattle.words.specs.Programming.{programAnswer, programCells}
 use Rattle.words.proofs.Programming.{by-answer, stored-refused}
 use Rattle.partitions.specs.declared.Partition.{Partition}
-use Rattle.partitions.specs.Map.{limit}
-use Rattle.partitions.specs.Map1.{map1}
+use Rattle.partitions.specs.Map.{Map, limit}
 use Rattle.model.specs.declared.Answer.{Answer}
 use Rattle.model.specs.declared.Answer.the-variants.{Done, Denied}
 use Rattle.model.specs.declared.Command.{Command}
@@ -30,8 +29,8 @@ use Rattle.direct_access.proofs.Places.{by-place, not-admitted, past-ma
 use Rattle.direct_access.proofs.Decisions.{Decided, past-guard, guard-passed}
 
 -- what the code reaches on a machine
-abbrev pub reached : Machine → ℕ → Reached
-reached m a = reachedOf (length (m .lent .cells)) (length (m .lent .copy)) (m .lent .constants) (m .session .phase) a
+abbrev pub reached : Map → Machine → ℕ → Reached
+reached map m a = reachedOf map (length (m .lent .cells)) (length (m .lent .copy)) (m .lent .constants) (m .session .phase) a
 
 -- ---- what an act comes to
 
@@ -52,18 +51,18 @@ programs m rule at ws value =
 
 -- ---- a command on an address
 
-module _ {x : Command} {m : Machine} {a : ℕ} {may : ℕ → Partition → Bool} {go : Partition → Act} (d : Decided x m a may go) where
+module _ {map : Map} {x : Command} {m : Machine} {a : ℕ} {may : ℕ → Partition → Bool} {go : Partition → Act} (d : Decided map x m a may go) where
   abbrev result : Answer → Result
   result b = record { machine = m; answer = b }
 
-  past : admission m ≡ Accepted → limit map1 ≤ a → result Denied ≡ resultFor x m
-  past e h = sym (acted x m (d .acts) e ∙ ap (λ (t : Act). comesTo t m) (d .decides ∙ past-guard a _ _ h) ∙ said-only m Denied)
+  past : admission map m ≡ Accepted → limit map ≤ a → result Denied ≡ resultFor map x m
+  past e h = sym (acted map x m (d .acts) e ∙ ap (λ (t : Act). comesTo t m) (d .decides ∙ past-guard map a _ _ h) ∙ said-only m Denied)
 
-  pub stopped : {b : Answer} → reached m a ≡ Refused b → result b ≡ resultFor x m
+  pub stopped : {b : Answer} → reached map m a ≡ Refused b → result b ≡ resultFor map x m
   stopped {b} r =
-      by-place _ _ _ (m .session .phase) a (λ c e. ap result (sym (same (sym (not-admitted _ _ _ _ a c e) ∙ r))) ∙ refused x m (d .acts) c e)
-      (λ e h. ap result (sym (same (sym (past-map _ _ _ _ a e h) ∙ r))) ∙ past e h)
-      (λ e h. absurd (not-at (sym r ∙ in-map _ _ _ _ a e h)))
+      by-place map _ _ _ (m .session .phase) a (λ c e. ap result (sym (same (sym (not-admitted map _ _ _ _ a c e) ∙ r))) ∙ refused map x m (d .acts) c e)
+      (λ e h. ap result (sym (same (sym (past-map map _ _ _ _ a e h) ∙ r))) ∙ past e h)
+      (λ e h. absurd (not-at (sym r ∙ in-map map _ _ _ _ a e h)))
     where
       same : {c : Answer} → Refused c ≡ Refused b → c ≡ b
       same q = cc
@@ -71,22 +70,22 @@ module _ {x : Command} {m : Machine} {a : ℕ} {may : ℕ → Partition → Bool
       not-at : {n : ℕ} {p : Partition} → Refused b ≡ At n p → ⊥
       not-at q = let z : _≡_ {A = ℕ} 0 1 = cc in omega arith
 
-  module _ {n : ℕ} {p : Partition} (r : reached m a ≡ At n p) where
-    arrived : (t : Act) → (if may n p then go p else refuse Denied) ≡ t → resultFor x m ≡ comesTo t m
+  module _ {n : ℕ} {p : Partition} (r : reached map m a ≡ At n p) where
+    arrived : (t : Act) → (if may n p then go p else refuse Denied) ≡ t → resultFor map x m ≡ comesTo t m
     arrived t f =
-        let place = reached-at _ _ _ (m .session .phase) a n p r in
+        let place = reached-at map _ _ _ (m .session .phase) a n p r in
         let here = ap₂ (λ (n : ℕ) (p : Partition). if may n p then go p else refuse Denied) (sym (place .number)) (sym (place .found)) in
-        acted x m (d .acts) (place .admitted-there) ∙ ap (λ (t : Act). comesTo t m) (d .decides ∙ guard-passed a _ _ (place .within) ∙ here ∙ f)
+        acted map x m (d .acts) (place .admitted-there) ∙ ap (λ (t : Act). comesTo t m) (d .decides ∙ guard-passed map a _ _ (place .within) ∙ here ∙ f)
 
-    pub denied : may n p ≡ false → result Denied ≡ resultFor x m
+    pub denied : may n p ≡ false → result Denied ≡ resultFor map x m
     denied e = sym (arrived (refuse Denied) (if-false _ _ e) ∙ said-only m Denied)
 
     -- it may act, and answers a value
-    pub answered : may n p ≡ true → {w : ℕ} → go p ≡ say (Done w) stay → {v : ℕ} → v ≡ w → result (Done v) ≡ resultFor x m
+    pub answered : may n p ≡ true → {w : ℕ} → go p ≡ say (Done w) stay → {v : ℕ} → v ≡ w → result (Done v) ≡ resultFor map x m
     answered e f g = sym (arrived _ (if-true _ _ e ∙ f) ∙ said-only m _ ∙ ap (λ (v : ℕ). result (Done v)) (sym g))
 
     -- it may act, and programs words and answers a value; or a cell refuses
     pub burnt : may n p ≡ true → {rule : Rule} {at : ℕ} {ws : List ℕ} {v : ℕ} → go p ≡ program rule at ws stay (say (Done v) stay) → {cells : List ℕ} {b : Answer}
         → cells ≡ programCells rule (m .lent .cells) at ws → b ≡ programmedAnswer (programAnswer rule (m .lent .cells) at ws) v
-        → resultOf cells (m .lent .copy) (m .lent .constants) (record { session = m .session; answer = b }) ≡ resultFor x m
+        → resultOf cells (m .lent .copy) (m .lent .constants) (record { session = m .session; answer = b }) ≡ resultFor map x m
     burnt e {rule} {at} {ws} {v} f g h = rw (g, h) (sym (arrived _ (if-true _ _ e ∙ f) ∙ programs m rule at ws v))

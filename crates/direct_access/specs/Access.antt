@@ -7,8 +7,7 @@ use Rattle.basics.specs.Choice.{if_then_else_}
 use Rattle.words.specs.declared.Programmed.{Programmed}
 use Rattle.words.specs.declared.Programmed.the-variants as programmed
 use Rattle.partitions.specs.declared.Partition.{Partition}
-use Rattle.partitions.specs.Map.{rightsOf, numberAt, partitionAt, limit, inDigest}
-use Rattle.partitions.specs.Map1.{map1}
+use Rattle.partitions.specs.Map.{Map, rightsOf, numberAt, partitionAt, limit, inDigest}
 use Rattle.model.specs.declared.Phase.{Phase}
 use Rattle.model.specs.declared.Session.{Session}
 use Rattle.model.specs.declared.Answer.{Answer}
@@ -23,12 +22,12 @@ use Rattle.direct_access.specs.declared.Reached.{Reached}
 use Rattle.direct_access.specs.declared.Reached.the-variants.{At, Refused}
 
 -- the place of an address, once the command is admitted
-unfoldable pub placeOf : Judged → ℕ → Reached
-placeOf (judged.Refused answer) a = Refused answer
-placeOf judged.Accepted a = if leb (limit map1) a then Refused Denied else At (numberAt map1 a) (partitionAt map1 a)
+unfoldable pub placeOf : Map → Judged → ℕ → Reached
+placeOf map (judged.Refused answer) a = Refused answer
+placeOf map judged.Accepted a = if leb (limit map) a then Refused Denied else At (numberAt map a) (partitionAt map a)
 
-unfoldable pub reachedOf : ℕ → ℕ → List ℕ → Phase → ℕ → Reached
-reachedOf cells copy constants phase a = placeOf (admittedOf cells copy constants phase) a
+unfoldable pub reachedOf : Map → ℕ → ℕ → List ℕ → Phase → ℕ → Reached
+reachedOf map cells copy constants phase a = placeOf map (admittedOf map cells copy constants phase) a
 
 -- each command's further tests, of the partition p with number n that the address a lies in
 unfoldable pub mayWrite : Session → ℕ → Partition → ℕ → Bool

@@ -3,7 +3,7 @@ use chip::Judged;
 use model::Answer;
 use model::Outcome;
 use model::Session;
-use partitions::LifeCyclePartition;
+use partitions::MapName;
 use partitions::Partition;
 use words::Programmed;
 use words::Rule;
@@ -11,8 +11,9 @@ ghost use mathlib.Core.Path.{_≡_};
 ghost use Prim.Native.Nat.{_+_, _≤_};
 ghost use lib.ListN.{length};
 ghost use Rattle.partitions.specs.Map.{firstWord, wordCount};
+ghost use Rattle.partitions.specs.Maps.{mapOf};
 ghost use Rattle.model.specs.declared.Command.{Command};
-ghost use Rattle.model.specs.Commands.{granule};
+ghost use Rattle.model.specs.Commands.{directRule, granule};
 ghost use Rattle.chip.specs.Chip.{machineOf, resultOf, resultFor};
 ghost use Rattle.direct_access.specs.Access.{reachedOf, mayWrite, mayRead, mayFrontRead, mayDigest, readValue, programmedAnswer};
 
@@ -23,17 +24,24 @@ enum Reached {
 }
 
 // What every command on an address tests first, in the paper's order: what is lent, the phase, the address.
-fn reach(cells: usize, copy: usize, constants: &[u16], session: Session, address: usize) -> Reached
-    ensures { λ r. ⌜ r ≡ reachedOf cells copy (now (constants .entry)) (session .phase) address ⌝ }
+fn reach(
+    cells: usize,
+    copy: usize,
+    constants: &[u16],
+    map: MapName,
+    session: Session,
+    address: usize,
+) -> Reached
+    ensures { λ r. ⌜ r ≡ reachedOf (mapOf map) cells copy (now (constants .entry)) (session .phase) address ⌝ }
 {
-    match chip::admit(cells, copy, constants, session) {
+    match chip::admit(cells, copy, constants, map, session) {
         Judged::Refused(answer) => Reached::Refused(answer),
         Judged::Accepted => {
-            if LifeCyclePartition::END <= address {
+            if map.limit() <= address {
                 return Reached::Refused(Answer::Denied);
             }
-            let number = partitions::number_at(address);
-            Reached::At(number, partitions::partition_of(number))
+            let number = map.number_at(address);
+            Reached::At(number, map.partition_of(number))
         }
     }
 }
@@ -102,6 +110,18 @@ fn read_value(cells: &[u16], constants: &[u16], partition: Partition, address: u
     chip::unscrambled(constants, partition, stored)
 }
 
+// The rule of refusal for a write: data that keep the old rule, and all else.
+fn rule_at(partition: Partition, address: usize) -> Rule
+    ensures { λ r. ⌜ r ≡ directRule partition address ⌝ }
+{
+    let kind = partition.kind;
+    let rights = kind.rights();
+    if rights.additive & !(partition.digest <= address) {
+        return Rule::KeepBits;
+    }
+    Rule::BlankOnly
+}
+
 // 4 where a cell refused, else done with a value.
 fn answer_of(programmed: Programmed, value: u64) -> Answer
     ensures { λ r. ⌜ r ≡ programmedAnswer programmed value ⌝ }
@@ -117,13 +137,14 @@ pub fn read(
     cells: &[u16],
     copy: &[u16],
     constants: &[u16],
+    map: MapName,
     session: Session,
     address: u32,
 ) -> Outcome
-    ensures { λ r. ⌜ resultOf (now (cells .entry)) (now (copy .entry)) (now (constants .entry)) r ≡ resultFor (Command.Read address) (machineOf (now (cells .entry)) (now (copy .entry)) (now (constants .entry)) session) ⌝ }
+    ensures { λ r. ⌜ resultOf (now (cells .entry)) (now (copy .entry)) (now (constants .entry)) r ≡ resultFor (mapOf map) (Command.Read address) (machineOf (now (cells .entry)) (now (copy .entry)) (now (constants .entry)) session) ⌝ }
 {
     let byte = address as usize;
-    match reach(cells.len(), copy.len(), constants, session, byte) {
+    match reach(cells.len(), copy.len(), constants, map, session, byte) {
         Reached::Refused(answer) => Outcome { session, answer },
         Reached::At(number, partition) => {
             if !may_read(session, number, partition, byte) {
@@ -146,14 +167,15 @@ pub fn write(
     cells: &mut [u16],
     copy: &[u16],
     constants: &[u16],
+    map: MapName,
     session: Session,
     address: u32,
     value: u64,
 ) -> Outcome
-    ensures { λ r. ⌜ resultOf (now (cells .exit)) (now (copy .entry)) (now (constants .entry)) r ≡ resultFor (Command.Write address value) (machineOf (now (cells .entry)) (now (copy .entry)) (now (constants .entry)) session) ⌝ }
+    ensures { λ r. ⌜ resultOf (now (cells .exit)) (now (copy .entry)) (now (constants .entry)) r ≡ resultFor (mapOf map) (Command.Write address value) (machineOf (now (cells .entry)) (now (copy .entry)) (now (constants .entry)) session) ⌝ }
 {
     let byte = address as usize;
-    match reach(cells.len(), copy.len(), constants, session, byte) {
+    match reach(cells.len(), copy.len(), constants, map, session, byte) {
         Reached::Refused(answer) => Outcome { session, answer },
         Reached::At(number, partition) => {
             if !may_write(session, number, partition, byte) {
@@ -165,7 +187,8 @@ pub fn write(
             let place = partition.granule_at(byte);
             let n = place.words;
             let words = words::split(chip::scrambled(constants, partition, value));
-            let programmed = words::program(Rule::BlankOnly, cells, place.word, &words[..n]);
+            let rule = rule_at(partition, byte);
+            let programmed = words::program(rule, cells, place.word, &words[..n]);
             Outcome {
                 session,
                 answer: answer_of(programmed, 0),
@@ -179,13 +202,14 @@ pub fn front_read(
     cells: &[u16],
     copy: &[u16],
     constants: &[u16],
+    map: MapName,
     session: Session,
     address: u32,
 ) -> Outcome
-    ensures { λ r. ⌜ resultOf (now (cells .entry)) (now (copy .entry)) (now (constants .entry)) r ≡ resultFor (Command.FrontRead address) (machineOf (now (cells .entry)) (now (copy .entry)) (now (constants .entry)) session) ⌝ }
+    ensures { λ r. ⌜ resultOf (now (cells .entry)) (now (copy .entry)) (now (constants .entry)) r ≡ resultFor (mapOf map) (Command.FrontRead address) (machineOf (now (cells .entry)) (now (copy .entry)) (now (constants .entry)) session) ⌝ }
 {
     let byte = address as usize;
-    match reach(cells.len(), copy.len(), constants, session, byte) {
+    match reach(cells.len(), copy.len(), constants, map, session, byte) {
         Reached::Refused(answer) => Outcome { session, answer },
         Reached::At(_, partition) => {
             if !may_front_read(partition, byte) {
@@ -208,13 +232,14 @@ pub fn digest(
     cells: &mut [u16],
     copy: &[u16],
     constants: &[u16],
+    map: MapName,
     session: Session,
     address: u32,
 ) -> Outcome
-    ensures { λ r. ⌜ resultOf (now (cells .exit)) (now (copy .entry)) (now (constants .entry)) r ≡ resultFor (Command.Digest address) (machineOf (now (cells .entry)) (now (copy .entry)) (now (constants .entry)) session) ⌝ }
+    ensures { λ r. ⌜ resultOf (now (cells .exit)) (now (copy .entry)) (now (constants .entry)) r ≡ resultFor (mapOf map) (Command.Digest address) (machineOf (now (cells .entry)) (now (copy .entry)) (now (constants .entry)) session) ⌝ }
 {
     let byte = address as usize;
-    match reach(cells.len(), copy.len(), constants, session, byte) {
+    match reach(cells.len(), copy.len(), constants, map, session, byte) {
         Reached::Refused(answer) => Outcome { session, answer },
         Reached::At(number, partition) => {
             if !may_digest(session, number, partition, byte) {
@@ -236,21 +261,22 @@ pub fn digest(
     }
 }
 
-// Read lock: of partition 0 or 1, until the next power-up.
+// Read lock: of a partition whose kind has one, until the next power-up.
 pub fn read_lock(
     cells: &[u16],
     copy: &[u16],
     constants: &[u16],
+    map: MapName,
     session: Session,
     partition: u8,
 ) -> Outcome
-    ensures { λ r. ⌜ resultOf (now (cells .entry)) (now (copy .entry)) (now (constants .entry)) r ≡ resultFor (Command.ReadLock partition) (machineOf (now (cells .entry)) (now (copy .entry)) (now (constants .entry)) session) ⌝ }
+    ensures { λ r. ⌜ resultOf (now (cells .entry)) (now (copy .entry)) (now (constants .entry)) r ≡ resultFor (mapOf map) (Command.ReadLock partition) (machineOf (now (cells .entry)) (now (copy .entry)) (now (constants .entry)) session) ⌝ }
 {
-    match chip::admit(cells.len(), copy.len(), constants, session) {
+    match chip::admit(cells.len(), copy.len(), constants, map, session) {
         Judged::Refused(answer) => Outcome { session, answer },
         Judged::Accepted => {
             let number = partition as usize;
-            let found = partitions::partition_of(number);
+            let found = map.partition_of(number);
             let kind = found.kind;
             let rights = kind.rights();
             if !rights.lockable {

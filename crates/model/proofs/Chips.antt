@@ -10,7 +10,7 @@ use borrow.Author.Tests.{leb-false, not-false}
 use Rattle.basics.specs.Choice.{if_then_else_}
 use Rattle.basics.specs.Range.{listed}
 use Rattle.basics.proofs.Choice.{by-cases, true-not-false, not-passed, if-true, if-false, if-same}
-use Rattle.basics.proofs.Range.{listed-at}
+use Rattle.basics.proofs.Range.{length-listed, listed-at, is-listed}
 use Rattle.words.specs.declared.Programmed.{Programmed}
 use Rattle.words.specs.declared.Programmed.the-variants as programmed
 use Rattle.words.specs.Words.{numberOf}
@@ -22,7 +22,7 @@ use Rattle.partitions.specs.declared.Kind.the-variants as kind
 use Rattle.partitions.specs.declared.Partition.{Partition}
 use Rattle.partitions.specs.Fitness.{fit}
 use Rattle.partitions.proofs.KindRights.{scrambled-direct, front-hardware, front-not-scrambled, lockable-not-hardware}
-use Rattle.partitions.proofs.Map.{inside, partition-fit, partition-word}
+use Rattle.partitions.proofs.Map.{inside, partition-fit, partition-word, direct-known}
 use Rattle.partitions.proofs.Granules.{granule-within, word-inside, word-number, digest-word}
 use Rattle.partitions.specs.Map.{Map, rightsOf, numberAt, partition, partitionAt, limit, inDigest, firstWord, wordCount, numberOfKind}
 use Rattle.model.specs.declared.Answer.{Answer}
@@ -34,7 +34,7 @@ use Rattle.model.specs.Session.{isReady, sensedAt, sensedLocked}
 use Rattle.model.specs.Lent.{Machine, Primitives, digestStart, digestFinal}
 use Rattle.model.specs.Acts.{stay, turned, Act, say, Performed, afterProgram, noting, perform}
 use Rattle.model.specs.Commands.{granule, storedDigest, dataWords, computedDigest, unscrambled, counterAt, writeAct, readAct, frontReadAct, digestAct, readLockAct, transitionAct, tokenAct, lockedTokenAct, entryAct, moveAct, commandAct, readyAct}
-use Rattle.model.specs.PowerUp.{digests, Waking, fails, wakes, waking, wakingOf, copyWord, wokenCopy, wokenSession, wokenAnswer}
+use Rattle.model.specs.PowerUp.{sensedDigest, digests, Waking, fails, wakes, waking, wakingOf, copyWord, wokenCopy, wokenSession, wokenAnswer}
 use Rattle.model.specs.Step.{Step, performed, act, powerUp, step, after, answers, machineAfter}
 use Rattle.model.specs.Terms.{Right, Digested, Agree, Matched, Hidden, Alike}
 use Rattle.model.proofs.Acts.{Within, says, programs, compares, within-map}
@@ -173,13 +173,11 @@ module _ (prims : Primitives) (map : Map) where
   front-latched constants cells j f =
       if-false _ _ (not-passed _ (λ t. true-not-false (front-hardware _ f) (lockable-not-hardware _ t))) ∙ rw (front-not-scrambled _ f) (if-false _ _ refl)
 
-  digests-same : (f g : Partition → ℕ) (ps : Map)
-      → ((n : ℕ) → n < length ps → rightsOf (partition ps n .kind) .direct ≡ true → f (partition ps n) ≡ g (partition ps n)) → digests f ps ≡ digests g ps
-  unfolding digests partition
-  digests-same f g [] h = refl
-  digests-same f g (p ∷ ps) h =
-      let rest = digests-same f g ps (λ n l e. h (suc n) (omega arith) e) in
-      if-same (λ e. ap₂ (λ (x : ℕ) (l : List ℕ). x ∷ l) (h 0 (omega arith) e) rest) (λ e. rest)
+  digests-same : (c d : List ℕ) → ((n : ℕ) → rightsOf (partition map n .kind) .direct ≡ true → storedDigest (partition map n) c ≡ storedDigest (partition map n) d)
+      → digests c map ≡ digests d map
+  unfolding digests sensedDigest
+  digests-same c d h =
+      is-listed _ 10 _ (length-listed _ 0 10) (λ n l. listed-at (λ i. sensedDigest c (partition map i)) 0 10 n l ∙ if-same (h n) (λ e. refl))
 
 module _ (prims : Primitives) (map : Map) (F : fit map ≡ true) (H : ℕ → Type 0) (known : (n : ℕ) → H n → n < length map)
     (secret : (n : ℕ) → H n → rightsOf (partition map n .kind) .scrambled ≡ true) where
@@ -240,7 +238,7 @@ module _ (prims : Primitives) (map : Map) (F : fit map ≡ true) (H : ℕ → Ty
   unfolding wokenSession
   woken-records (fails reason answer) c d k k′ t h = refl
   woken-records (wakes state count) c d k k′ t h =
-      rw (digests-same prims map (λ p. storedDigest p c) (λ p. storedDigest p d) map (λ n l e. stored-alike c d h n l e))
+      rw (digests-same prims map c d (λ n e. stored-alike c d h n (direct-known map n e) e))
 
   up-made : (c d k k′ t : List ℕ) (s s′ : Session) → Right map (made c k t s) → Right map (made d k′ t s′) → Same (Shown map H) c d
       → ((p : ℕ) → H p → storedDigest (partition map p) c ≡ 0 → ⊥)

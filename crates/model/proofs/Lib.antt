@@ -21,7 +21,7 @@ pub mod Deaths
 pub mod Quiet
 pub mod Theorems
 pub mod Everything
-pub mod LifeCyclePlace
 pub mod Cases
 pub mod ToyChip
 pub mod Runs
+pub mod RunsOfMap2

@@ -3,18 +3,16 @@
 use mathlib.Core.Path.{_≡_, refl, sym, ap, _∙_}
 use mathlib.Core.Bool.{true}
 use mathlib.Core.List.{List, [], _∷_, _++_}
-use Prim.Native.Nat.{ℕ, zero, suc, _+_, _*_, _/_, _≤_, _<_}
+use Prim.Native.Nat.{ℕ, _+_, _*_, _/_, _≤_, _<_}
 use native.Mathlib.Omega.{arith}
-use lib.Dec.{ltb}
-use lib.ListN.{length, getD}
-use borrow.Author.Tests.{ltb-true, ltb-false}
-use Rattle.basics.proofs.Choice.{by-cases, true-not-false, if-true}
+use lib.ListN.{getD}
+use Rattle.basics.proofs.Choice.{true-not-false, if-true}
+use Rattle.basics.proofs.Range.{listed-at}
 use Rattle.words.specs.Words.{numberOf}
 use Rattle.words.proofs.Parts.{part-same}
 use Rattle.partitions.specs.declared.Kind.the-variants as kind
-use Rattle.partitions.specs.declared.Partition.{Partition}
 use Rattle.partitions.specs.Fitness.{fit}
-use Rattle.partitions.proofs.Map.{only, partition-fit, direct-before-last, life-cycle-partition}
+use Rattle.partitions.proofs.Map.{only, partition-fit, digest-below-ten, life-cycle-partition}
 use Rattle.partitions.specs.Map.{Map, rightsOf, partition, numberOfKind}
 use Rattle.model.specs.declared.Session.{Session}
 use Rattle.model.specs.declared.Command.{Command}
@@ -23,7 +21,7 @@ use Rattle.model.specs.Session.{isReady, sensedAt}
 use Rattle.model.specs.Lent.{Lent, Machine, Primitives}
 use Rattle.model.specs.Acts.{Turn, stay, lock, halt, die, turned}
 use Rattle.model.specs.Commands.{storedDigest}
-use Rattle.model.specs.PowerUp.{digests, Waking, fails, wakes, waking, wokenSession}
+use Rattle.model.specs.PowerUp.{sensedDigest, digests, Waking, fails, wakes, waking, wokenSession}
 use Rattle.model.specs.Step.{Step, unchanged, performed, act, powerUp, after, machineAfter}
 use Rattle.model.specs.Terms.{Right, Digested, SamePartition}
 use Rattle.model.proofs.Acts.{perform-frame}
@@ -51,25 +49,10 @@ turned-ready (lock number) s e = e
 turned-ready halt s e = absurd (true-not-false e refl)
 turned-ready die s e = absurd (true-not-false e refl)
 
--- the digest of partition n among those of the map
-module _ (f : Partition → ℕ) where
-  digests-at : (map : Map) (n : ℕ) → n < length map → ((i : ℕ) → i ≤ n → rightsOf (partition map i .kind) .direct ≡ true)
-      → getD (digests f map) n 0 ≡ f (partition map n)
-  unfolding digests partition
-  digests-at [] n l h = absurd (omega arith)
-  digests-at (p ∷ ps) zero l h = rw (if-true (f p ∷ digests f ps) (digests f ps) (h 0 (omega arith)))
-  digests-at (p ∷ ps) (suc n) l h =
-      rw (if-true (f p ∷ digests f ps) (digests f ps) (h 0 (omega arith))) (digests-at ps n (omega arith) (λ i k. h (suc i) (omega arith)))
-
 module _ (prims : Primitives) (map : Map) (F : fit map ≡ true) (n : ℕ) (D : Digested map n) where
-  -- every partition up to one with a digest has one
-  lower-direct : (i : ℕ) → i ≤ n → rightsOf (partition map i .kind) .direct ≡ true
-  lower-direct i l =
-      by-cases (ltb (suc i) (length map)) (λ t. direct-before-last map F (ltb-true _ _ t))
-      (λ t. let e : i ≡ n = omega (arith, D .known, ltb-false (suc i) (length map) t) in rw e (D .direct))
-
-  pub sensed-stored : (l : Lent) → getD (digests (λ p. storedDigest p (l .cells)) map) n 0 ≡ storedDigest (partition map n) (l .cells)
-  sensed-stored l = digests-at (λ p. storedDigest p (l .cells)) map n (D .known) lower-direct
+  pub sensed-stored : (l : Lent) → getD (digests (l .cells) map) n 0 ≡ storedDigest (partition map n) (l .cells)
+  unfolding digests sensedDigest
+  sensed-stored l = listed-at _ 0 10 n (digest-below-ten map F (D .direct)) ∙ if-true _ _ (D .direct)
 
   pub stored-same : (c d : List ℕ) → SamePartition map n c d → storedDigest (partition map n) c ≡ storedDigest (partition map n) d
   unfolding storedDigest

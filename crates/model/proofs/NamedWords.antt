@@ -78,7 +78,7 @@ module _ (prims : Primitives) (map : Map) (m : Machine) where
   -- ---- a command with a target
 
   target-programs : {x : Command} {rule : Rule} {at : ℕ} {words : List ℕ} → Targets prims map m x rule at words → Programs rule at words (readyAct prims map m x)
-  target-programs (writing {a} {value}) = once-programs (λ r at ws v w. (w .by-rule, w .place, w .holds)) (write-once prims map m a value)
+  target-programs (writing {a} {value} e) = once-programs (λ r at ws v w. (w .by-rule ∙ e, w .place, w .holds)) (write-once prims map m a value)
   target-programs (digesting {a}) =
       once-programs (λ r at ws v w. (w .by-rule, w .place, w .holds ∙ ap (wordsOf 4) (w .answer))) (digest-once prims map m a)
   target-programs (moving {target} {high} {low}) = transition-programs target high low
@@ -92,7 +92,7 @@ module _ (prims : Primitives) (map : Map) (m : Machine) where
 
   target-acts : {x : Command} {rule : Rule} {at : ℕ} {words : List ℕ} → Targets prims map m x rule at words → obey prims map x m ≡ act prims map x m
   unfolding obey
-  target-acts writing = refl
+  target-acts (writing e) = refl
   target-acts digesting = refl
   target-acts moving = refl
 
@@ -118,7 +118,7 @@ module _ (prims : Primitives) (map : Map) (m : Machine) where
 
   named : (x : Command) → codeOf (answerTo prims map x m) ≡ 0x04 → Named prims map m x (valueOf (answerTo prims map x m))
   unfolding obey readyAct commandAct readAct frontReadAct readLockAct
-  named (Write a value) = target-named writing
+  named (Write a value) = target-named (writing refl)
   named (Digest a) = target-named digesting
   named (Transition target high low) = target-named moving
   named (Read a) = λ e. absurd (idle (Read a) refl (search (programs-either, refuses, ends) depth 9) e)

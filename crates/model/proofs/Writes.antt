@@ -9,6 +9,8 @@ use lib.Dec.{eqb, lit<}
 use lib.ListN.{getD}
 use borrow.Author.Tests.{leb-false, lt-leb, eq-eqb, eqb-true, eqb-false}
 use Rattle.basics.proofs.Choice.{by-cases, true-not-false, not-passed, and-both, and-false, if-true, if-false, if-both}
+use Rattle.words.specs.declared.Rule.{Rule}
+use Rattle.words.specs.declared.Rule.the-variants.{KeepBits, BlankOnly}
 use Rattle.words.specs.Words.{numberOf, wordsOf, partAt}
 use Rattle.words.specs.Programming.{programCells}
 use Rattle.words.proofs.Words.{length-words, number-block}
@@ -40,11 +42,18 @@ use Rattle.model.proofs.Steps.{outcome, step-all, cells-length, step-ri
 use Rattle.model.proofs.SecondBurns.{after-held}
 use Rattle.model.proofs.Ready.{step-act, Fresh, first-fresh, step-fresh, after-fresh}
 
+-- ---- either rule
+
+by-rule {ℓ} : {X : Type ℓ} → (r : Rule) → (r ≡ KeepBits → X) → (r ≡ BlankOnly → X) → X
+by-rule KeepBits f g = f refl
+by-rule BlankOnly f g = g refl
+
 -- ---- keys fit, so scrambling can be undone
 
 key-fits : (c : List ℕ) (k : Kind) → ((i : ℕ) → getD c i 0 < 65536) → keyOf c k < 2 ^ 128
 unfolding keyOf
 key-fits c kind.Software h = lit< tt
+key-fits c kind.AuthState h = lit< tt
 key-fits c kind.HwCfg h = lit< tt
 key-fits c kind.Secret0 h = part-number-lt (record { small = h }) 0 8
 key-fits c kind.Secret1 h = part-number-lt (record { small = h }) 8 8
@@ -85,7 +94,7 @@ module _ (prims : Primitives) (C : Cipher prims) (map : Map) (F : fit map ≡ tr
   write-performed : (c₀ : List ℕ) (m : Machine) → Fresh map c₀ m → (a value : ℕ) → Allowed prims map (m .lent .constants) c₀ (m .lent .cells) a value
       → perform (readyAct prims map m (Write a value)) (m .lent .copy) (m .lent .cells)
       ≡ record {
-        cells = programCells directRule (m .lent .cells) (firstWord (partitionAt map a) a) (storedWords prims map (m .lent .constants) a value);
+        cells = programCells (directRule (partitionAt map a) a) (m .lent .cells) (firstWord (partitionAt map a) a) (storedWords prims map (m .lent .constants) a value);
         answer = Done 0;
         turn = stay;
         compared = [];
@@ -102,7 +111,7 @@ module _ (prims : Primitives) (C : Cipher prims) (map : Map) (F : fit map ≡ tr
   unfolding act performed
   write-takes c₀ m f a value al =
       rw (step-act prims map (Write a value) m (f .right) tt, write-performed c₀ m f a value al)
-      (record { done = refl; holds = held; others = λ j n. program-elsewhere directRule (m .lent .cells) vs i j (λ l u. n l (rw length-words at u)) })
+      (record { done = refl; holds = held; others = λ j n. program-elsewhere (directRule (partitionAt map a) a) (m .lent .cells) vs i j (λ l u. n l (rw length-words at u)) })
     where
       i : ℕ
       i = firstWord (partitionAt map a) a
@@ -110,10 +119,10 @@ module _ (prims : Primitives) (C : Cipher prims) (map : Map) (F : fit map ≡ tr
       vs : List ℕ
       vs = storedWords prims map (m .lent .constants) a value
 
-      held : partAt (programCells directRule (m .lent .cells) i vs) i (wordCount (partitionAt map a) a) ≡ vs
+      held : partAt (programCells (directRule (partitionAt map a) a) (m .lent .cells) i vs) i (wordCount (partitionAt map a) a) ≡ vs
       held =
           let inside = granule-within map F (al .below) in
-          rw length-words at (program-takes directRule (m .lent .cells) vs i (rw length-words (omega (arith, inside, cells-length prims map m (f .right)))) (al .blank))
+          rw length-words at (program-takes (directRule (partitionAt map a) a) (m .lent .cells) vs i (rw length-words (omega (arith, inside, cells-length prims map m (f .right)))) (al .blank))
 
   -- ---- what leaves the granule alone
 
@@ -183,12 +192,7 @@ module _ (prims : Primitives) (C : Cipher prims) (map : Map) (F : fit map ≡ tr
       same-partition = rw (one .number)
 
       same-side : inDigest (partitionAt map b) b ≡ inDigest (partitionAt map a) a
-      same-side =
-          let w = granule-inside map F low in
-          let v = granule-inside map F below in
-          let e = word-inside map F low {j = first} (omega arith) (omega arith) .side in
-          let f = word-inside map F below {j = first} (omega arith) (omega arith) .side in
-          sym e ∙ ap (λ (p : Partition). inDigest p (2 * first)) same-partition ∙ f
+      same-side = one .side
 
       -- the granule holds the words of the value; what is read of it
       module _ (m : Machine) (r : Right map m) (value : ℕ) (v : value < 2 ^ 64)
@@ -309,10 +313,12 @@ module _ (prims : Primitives) (C : Cipher prims) (map : Map) (F : fit map ≡ tr
       spared-stays = after-stays a (al .below) (al .direct) (al .notDigest) l₂ (s .result .machine)
 
       -- and always, where the stored form is not zero: the granule is not blank
-      lasting-stays : (numberOf (storedWords prims map (m .lent .constants) a value) ≡ 0 → Spared prims map a l₂ (s .result .machine)) → Stays
-      lasting-stays spared =
+      lasting-stays : (numberOf (storedWords prims map (m .lent .constants) a value) ≡ 0 → Spared prims map a l₂ (s .result .machine))
+          → (directRule (partitionAt map a) a ≡ KeepBits → Spared prims map a l₂ (s .result .machine)) → Stays
+      lasting-stays spared again =
           by-cases (eqb (numberOf (storedWords prims map (m .lent .constants) a value)) 0) (λ t. spared-stays (spared (eqb-true _ _ t)))
-          (λ t. after-held prims map F a (al .below) (al .direct) l₂ (s .result .machine) (λ z. eqb-false _ _ t (sym stored-number ∙ z)))
+          (λ t. by-rule (directRule (partitionAt map a) a) (λ k. spared-stays (again k))
+          (λ b. after-held prims map F a (al .below) (al .direct) b l₂ (s .result .machine) (λ z. eqb-false _ _ t (sym stored-number ∙ z))))
 
       still-right : Right map m₂
       still-right = after-right prims map l₂ (s .result .machine) (step-right prims map (Write a value) m₁ (fresh .right))
@@ -333,6 +339,7 @@ module _ (prims : Primitives) (C : Cipher prims) (map : Map) (F : fit map ≡ tr
 
       -- and ever after, every read of the granule that answers 0 answers the data used
       pub reads-last : (numberOf (storedWords prims map (m .lent .constants) a value) ≡ 0 → Spared prims map a l₂ (s .result .machine))
+          → (directRule (partitionAt map a) a ≡ KeepBits → Spared prims map a l₂ (s .result .machine))
           → (b shown : ℕ) → firstWord (partitionAt map b) b ≡ firstWord (partitionAt map a) a
           → answerTo prims map (Read b) m₂ ≡ Done shown → shown ≡ usedValue map a value
-      reads-last spared = read-lasts a (al .below) (al .direct) (al .notDigest) m₂ still-right value v (still-held (lasting-stays spared))
+      reads-last spared again = read-lasts a (al .below) (al .direct) (al .notDigest) m₂ still-right value v (still-held (lasting-stays spared again))

@@ -6,7 +6,7 @@ use mathlib.Core.Bool.{Bool, true, false}
 use mathlib.Core.List.{List, [], _∷_, _++_}
 use lib.ListN.{length, getD}
 use Rattle.words.specs.declared.Rule.{Rule}
-use Rattle.words.specs.declared.Rule.the-variants.{BlankOnly}
+use Rattle.words.specs.declared.Rule.the-variants.{KeepBits, BlankOnly}
 use Rattle.words.specs.Words.{numberOf, wordsOf, partAt}
 use Rattle.words.specs.Programming.{programCells, Lowest}
 use Rattle.partitions.specs.Map.{Map, rightsOf, numberAt, partition, partitionAt, limit, inDigest, firstWord, wordCount, numberOfKind}
@@ -24,7 +24,7 @@ use Rattle.model.specs.declared.Command.the-variants.{Read, Write, Front
 use Rattle.model.specs.Answers.{codeOf, valueOf}
 use Rattle.model.specs.Session.{isReady, sensedLocked}
 use Rattle.model.specs.Lent.{Machine, Primitives, rawUnlockHash}
-use Rattle.model.specs.Commands.{directRule, lifeCycleRule, granule, storedDigest, tokenKind, computedDigest, hashesTo, counterAt, storedToken}
+use Rattle.model.specs.Commands.{directRule, digestRule, lifeCycleRule, granule, storedDigest, tokenKind, computedDigest, hashesTo, counterAt, storedToken}
 use Rattle.model.specs.PowerUp.{lifeCycleIn}
 use Rattle.model.specs.Step.{step, after, machineAfter, answerTo}
 use Rattle.model.specs.Terms.{Right, Digested, storedWords, Spared, Allowed, usedValue, quiet}
@@ -54,9 +54,10 @@ module _ (prims : Primitives) (map : Map) where
   -- what a command is to program: by which rule, from which word on, and the words. A write and a digest command have a target granule; a transition
   -- has life cycle words, the counter's of one stroke more and then the state's.
   pub data Targets (m : Machine) : Command → Rule → ℕ → List ℕ → Type 0 where
-    writing : {a value : ℕ} → Targets m (Write a value) directRule (firstWord (partitionAt map a) a) (storedWords prims map (m .lent .constants) a value)
+    writing : {a value : ℕ} {rule : Rule} → directRule (partitionAt map a) a ≡ rule
+        → Targets m (Write a value) rule (firstWord (partitionAt map a) a) (storedWords prims map (m .lent .constants) a value)
     digesting : {a : ℕ}
-        → Targets m (Digest a) directRule (partitionAt map a .digest / 2) (wordsOf 4 (computedDigest prims (m .lent .constants) (partitionAt map a) (m .lent .cells)))
+        → Targets m (Digest a) digestRule (partitionAt map a .digest / 2) (wordsOf 4 (computedDigest prims (m .lent .constants) (partitionAt map a) (m .lent .cells)))
     moving : {target high low : ℕ}
         → Targets m (Transition target high low) lifeCycleRule (counterAt map)
         (counterWords (m .lent .constants) (suc (m .session .count)) ++ stateWords (m .lent .constants) target)
@@ -106,8 +107,9 @@ module _ (prims : Primitives) (map : Map) where
         → let m₁ = after prims map l m in
         Targets m₁ x BlankOnly at words
         → (j : ℕ) → (getD (m₁ .lent .cells) j 0 ≡ 0 → ⊥) → getD (machineAfter prims map x m₁ .lent .cells) j 0 ≡ getD (m₁ .lent .cells) j 0
-    -- A granule that direct access reaches, once it is not blank, never changes, whatever follows.
-    pub granules : (m : Machine) (a : ℕ) → a < limit map → rightsOf (partitionAt map a .kind) .direct ≡ true → (l₁ l₂ : List Command)
+    -- A granule that direct access reaches by the new rule, once it is not blank, never changes, whatever follows.
+    pub granules : (m : Machine) (a : ℕ) → a < limit map → rightsOf (partitionAt map a .kind) .direct ≡ true → directRule (partitionAt map a) a ≡ BlankOnly
+        → (l₁ l₂ : List Command)
         → let p = partitionAt map a in
         (granule p (after prims map l₁ m .lent .cells) a ≡ 0 → ⊥)
         → partAt (after prims map (l₁ ++ l₂) m .lent .cells) (firstWord p a) (wordCount p a)
@@ -123,14 +125,15 @@ module _ (prims : Primitives) (map : Map) where
         isReady (m₁ .session .phase) ≡ true → sensedLocked (m₁ .session) (numberAt map a) ≡ true
         → Says 0x05 0 (answerTo prims map (Write a value) m₁) × Says 0x05 0 (answerTo prims map (Digest a) m₁)
     -- what a write that the rules allowed has stored is what is ever read there: whatever follows, power-ups and transitions too, each read of its
-    -- granule that answers 0 answers the data used. Only where the stored form is zero may the granule be written again: there, while no other write
-    -- to it answers 0.
+    -- granule that answers 0 answers the data used. Only where the stored form is zero, or by the old rule, may the granule be written again: there, while no
+    -- other write to it answers 0.
     pub lasting : (m : Machine) → Right map m → (l₀ l₁ : List Command) → Ready prims map m l₀ l₁ → (a value : ℕ) → value < 2 ^ 64
         → let m₀ = after prims map l₀ m in
         let m₁ = after prims map l₁ (machineAfter prims map PowerUp m₀) in
         let s = step prims map (Write a value) m₁ in
         Allowed prims map (m .lent .constants) (m₀ .lent .cells) (m₁ .lent .cells) a value
         → (l₂ : List Command) → (numberOf (storedWords prims map (m .lent .constants) a value) ≡ 0 → Spared prims map a l₂ (s .result .machine))
+        → (directRule (partitionAt map a) a ≡ KeepBits → Spared prims map a l₂ (s .result .machine))
         → (b shown : ℕ) → firstWord (partitionAt map b) b ≡ firstWord (partitionAt map a) a
         → answerTo prims map (Read b) (after prims map l₂ (s .result .machine)) ≡ Done shown → shown ≡ usedValue map a value
     -- a digest is never written in part: after any list it is whole the one that was there before, or the one that a single command of the list put there

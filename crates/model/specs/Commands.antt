@@ -26,9 +26,12 @@ use Rattle.model.specs.Lent.{Machine, Primitives, keyOf, digestStart, di
 use Rattle.model.specs.Acts.{stay, lock, halt, die, Act, say, program, compare, refuse}
 
 -- "A direct access write, or a digest command, is now refused with 4 if any word of its target granule is nonzero, whatever the value. LIFE_CYCLE
--- words keep the old rule." (request Three)
-abbrev pub directRule : Rule
-directRule = BlankOnly
+-- words keep the old rule." (request Three) "AUTH_STATE data, like LIFE_CYCLE, keeps the old rule" (request Six).
+unfoldable pub directRule : Partition → ℕ → Rule
+directRule p a = if rightsOf (p .kind) .additive && not (inDigest p a) then KeepBits else BlankOnly
+
+abbrev pub digestRule : Rule
+digestRule = BlankOnly
 
 abbrev pub lifeCycleRule : Rule
 lifeCycleRule = KeepBits
@@ -105,7 +108,7 @@ module _ (prims : Primitives) (map : Map) (m : Machine) where
       else if not (rightsOf (p .kind) .direct) then refuse Denied
       else if rightsOf (p .kind) .hardware && inDigest p a then refuse Denied
       else if sensedLocked session (numberAt map a) then refuse Denied
-      else program directRule (firstWord p a) (wordsOf (wordCount p a) (scrambled prims constants p value)) stay (say (Done 0) stay)
+      else program (directRule p a) (firstWord p a) (wordsOf (wordCount p a) (scrambled prims constants p value)) stay (say (Done 0) stay)
 
   -- "5 if the address is 0x380 or more or in LIFE_CYCLE; for data, not digests, also if the partition is read-locked or is secret with a
   -- nonzero sensed digest. Digests are always readable, plain. .. Reads look at cells"
@@ -129,7 +132,7 @@ module _ (prims : Primitives) (map : Map) (m : Machine) where
       else if not (rightsOf (p .kind) .hardware) then refuse Denied
       else if not (eqb a (p .start)) then refuse Denied
       else if sensedLocked session (numberAt map a) then refuse Denied
-      else program directRule (p .digest / 2) (wordsOf 4 digest) stay (say (Done digest) stay)
+      else program digestRule (p .digest / 2) (wordsOf 4 digest) stay (say (Done digest) stay)
 
   -- "5 unless 0 or 1. Lasts until power-up; locking again answers 0." (0 and 1 are the partitions with a read lock)
   unfoldable pub readLockAct : ℕ → Act

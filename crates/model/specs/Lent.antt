@@ -6,7 +6,7 @@ use lib.Dec.{eqb}
 use lib.ListN.{length}
 use Rattle.words.specs.Words.{numberOf, partAt}
 use Rattle.partitions.specs.declared.Kind.{Kind}
-use Rattle.partitions.specs.declared.Kind.the-variants.{Software, HwCfg, Secret0, Secret1, Secret2, LifeCycle}
+use Rattle.partitions.specs.declared.Kind.the-variants.{Software, AuthState, HwCfg, Secret0, Secret1, Secret2, LifeCycle}
 use Rattle.partitions.specs.Map.{Map, limit}
 use Rattle.model.specs.declared.Session.{Session}
 
@@ -31,6 +31,7 @@ keyOf constants Secret0 = numberOf (partAt constants 0 8)
 keyOf constants Secret1 = numberOf (partAt constants 8 8)
 keyOf constants Secret2 = numberOf (partAt constants 16 8)
 keyOf constants Software = 0
+keyOf constants AuthState = 0
 keyOf constants HwCfg = 0
 keyOf constants LifeCycle = 0
 

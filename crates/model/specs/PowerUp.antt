@@ -9,7 +9,7 @@ use Rattle.basics.specs.Choice.{if_then_else_}
 use Rattle.basics.specs.Range.{listed}
 use Rattle.words.specs.Words.{wordsOf, partAt}
 use Rattle.partitions.specs.declared.Partition.{Partition}
-use Rattle.partitions.specs.Map.{Map, rightsOf, partitionAt, limit, inDigest, firstWord, wordCount}
+use Rattle.partitions.specs.Map.{Map, rightsOf, partition, partitionAt, limit, inDigest, firstWord, wordCount}
 use Rattle.life_cycle.specs.declared.LifeCycle.{LifeCycle}
 use Rattle.life_cycle.specs.declared.LifeCycle.the-variants.{Valid, Invalid}
 use Rattle.life_cycle.specs.Words.{decoded}
@@ -19,17 +19,17 @@ use Rattle.model.specs.declared.Phase.the-variants.{Ready, Dead}
 use Rattle.model.specs.declared.Session.{Session}
 use Rattle.model.specs.declared.Answer.{Answer}
 use Rattle.model.specs.declared.Answer.the-variants.{Done, DigestFailed, LifeCycleFailed}
+use Rattle.model.specs.Session.{noDigests, noLocks}
 use Rattle.model.specs.Lent.{Lent, Primitives}
 use Rattle.model.specs.Commands.{granule, storedDigest, computedDigest, unscrambled, counterAt, stateAt}
 
--- one entry for each partition that has a digest (those with direct access: all but LIFE_CYCLE), and one for each that has a read lock
-unfoldable pub digests : (Partition → ℕ) → Map → List ℕ
-digests f [] = []
-digests f (p ∷ ps) = if rightsOf (p .kind) .direct then f p ∷ digests f ps else digests f ps
+-- the stored digest of a partition that has one (those with direct access: all but LIFE_CYCLE), else 0
+unfoldable pub sensedDigest : List ℕ → Partition → ℕ
+sensedDigest cells p = if rightsOf (p .kind) .direct then storedDigest p cells else 0
 
-unfoldable pub noLocks : Map → List Bool
-noLocks [] = []
-noLocks (p ∷ ps) = if rightsOf (p .kind) .lockable then false ∷ noLocks ps else noLocks ps
+-- by the partitions' numbers, as many as the record has room for
+unfoldable pub digests : List ℕ → Map → List ℕ
+digests cells map = listed (λ n. sensedDigest cells (partition map n)) 0 10
 
 -- how a power-up ends: dead, with a reason and an answer, or ready with a state and a count
 pub data Waking : Type 0 where
@@ -65,9 +65,9 @@ lifeCycleIn map l = decoded (l .constants) (partAt (l .cells) (counterAt map) 24
 -- "A 6 or 7 here sets .. sensed digests, state and count to zero" "Success: Ready; sensed digests of 0 to 5 are the stored ones". Both clear the read
 -- locks.
 unfoldable pub wokenSession : Map → Waking → Lent → Session
-wokenSession map (fails reason answer) l = record { phase = Dead reason; sensed = digests (λ p. 0) map; locks = noLocks map; state = 0; count = 0 }
+wokenSession map (fails reason answer) l = record { phase = Dead reason; sensed = noDigests; locks = noLocks; state = 0; count = 0 }
 wokenSession map (wakes state count) l =
-    record { phase = Ready; sensed = digests (λ p. storedDigest p (l .cells)) map; locks = noLocks map; state = state; count = count }
+    record { phase = Ready; sensed = digests (l .cells) map; locks = noLocks; state = state; count = count }
 
 -- "value 256 times count plus state"
 unfoldable pub wokenAnswer : Waking → Answer

@@ -1,9 +1,10 @@
--- The session record: "phase, sensed digests, two read locks, state number, stroke count".
+-- The session record: "phase, sensed digests, two read locks, state number, stroke count". A map has at most eleven partitions and the last has no digest
+-- (request Six): there is room for ten sensed digests and ten read locks, by the number of the partition.
 use Prim.Native.Nat.{ℕ}
 use mathlib.Core.Bool.{Bool, true, false, not}
-use mathlib.Core.List.{[], _∷_}
+use mathlib.Core.List.{List}
 use lib.Dec.{eqb}
-use lib.ListN.{getD, set}
+use lib.ListN.{getD, set, replicate}
 use Rattle.model.specs.declared.Reason.{Reason}
 use Rattle.model.specs.declared.Reason.the-variants.{BitCleared, DigestFailed, LifeCycleFailed}
 use Rattle.model.specs.declared.Phase.{Phase}
@@ -16,9 +17,16 @@ reasonCode BitCleared = 4
 reasonCode DigestFailed = 6
 reasonCode LifeCycleFailed = 7
 
--- "A fresh record is Off, all else zero.": a sensed digest for each of the partitions 0 to 5, a read lock for 0 and for 1
+-- nothing is sensed, nothing is read-locked
+abbrev pub noDigests : List ℕ
+noDigests = replicate 10 0
+
+abbrev pub noLocks : List Bool
+noLocks = replicate 10 false
+
+-- "A fresh record is Off, all else zero."
 abbrev pub freshSession : Session
-freshSession = record { phase = Off; sensed = 0 ∷ 0 ∷ 0 ∷ 0 ∷ 0 ∷ 0 ∷ []; locks = false ∷ false ∷ []; state = 0; count = 0 }
+freshSession = record { phase = Off; sensed = noDigests; locks = noLocks; state = 0; count = 0 }
 
 -- the one phase in which commands but power-up are answered
 unfoldable pub isReady : Phase → Bool
@@ -35,7 +43,7 @@ sensedAt s number = getD (s .sensed) number 0
 unfoldable pub sensedLocked : Session → ℕ → Bool
 sensedLocked s number = not (eqb (sensedAt s number) 0)
 
--- whether a partition is read-locked; only 0 and 1 can be
+-- whether a partition is read-locked; only those whose kind has a read lock can be
 unfoldable pub readLocked : Session → ℕ → Bool
 readLocked s number = getD (s .locks) number false
 

@@ -18,11 +18,14 @@ pub enum Phase {
     Dead(Reason),
 }
 
+// How many sensed digests and read locks the record has room for: one for each partition of a fit map but the last, by its number.
+pub const ROOM: usize = 10;
+
 // The session record: phase, sensed digests, read locks, life cycle state and stroke count.
 pub struct Session {
     pub phase: Phase,
-    pub sensed: [u64; 6],
-    pub locks: [bool; 2],
+    pub sensed: [u64; 10],
+    pub locks: [bool; 10],
     pub state: u8,
     pub count: u8,
 }
@@ -68,8 +71,8 @@ impl Session {
     {
         Session {
             phase: Phase::Off,
-            sensed: [0, 0, 0, 0, 0, 0],
-            locks: [false, false],
+            sensed: [0; 10],
+            locks: [false; 10],
             state: 0,
             count: 0,
         }
@@ -79,14 +82,14 @@ impl Session {
     pub fn sensed_at(self, number: usize) -> u64
         ensures { λ r. ⌜ r ≡ sensedAt self number ⌝ }
     {
-        if number < 6 { self.sensed[number] } else { 0 }
+        if number < ROOM { self.sensed[number] } else { 0 }
     }
 
     // Whether a partition is read-locked.
     pub fn read_locked(self, number: usize) -> bool
         ensures { λ r. ⌜ r ≡ readLocked self number ⌝ }
     {
-        if number < 2 {
+        if number < ROOM {
             self.locks[number]
         } else {
             false

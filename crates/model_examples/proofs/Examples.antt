@@ -15,13 +15,14 @@ use Rattle.basics.proofs.Bits.{xor-xor}
 use Rattle.words.specs.Words.{numberOf, partAt}
 use Rattle.partitions.specs.Map.{numberAt, partition, partitionAt, inDigest, firstWord, wordCount}
 use Rattle.partitions.specs.Map1.{map1}
-use Rattle.partitions.proofs.Map1.{map1-fit}
+use Rattle.partitions.proofs.Maps.{map1-fit}
 use Rattle.model.specs.declared.Answer.the-variants.{Done, NotBlank, Denied}
 use Rattle.model.specs.declared.Command.{Command}
 use Rattle.model.specs.declared.Command.the-variants.{Read, Write, FrontRead, Digest, ReadLock, Transition, PowerUp}
 use Rattle.model.specs.Lent.{Machine}
 use Rattle.life_cycle.specs.declared.LifeCycle.the-variants.{Valid}
-use Rattle.model.specs.Commands.{granule, storedDigest}
+use Rattle.words.specs.declared.Rule.the-variants.{KeepBits}
+use Rattle.model.specs.Commands.{directRule, granule, storedDigest}
 use Rattle.model.specs.PowerUp.{lifeCycleIn}
 use Rattle.model.specs.Step.{after, answers, machineAfter, answerTo}
 use Rattle.model.specs.Cases.{blank, number, table, Hold, blankDigest}
@@ -111,13 +112,17 @@ not-zero : numberOf (storedWords toy map1 (off blank .lent .constants) 0x003 0x5
 unfolding everything
 not-zero z = omega arith
 
+not-old : directRule (partitionAt map1 0x003) 0x003 ≡ KeepBits → ⊥
+unfolding everything
+not-old e = let z : _≡_ {A = ℕ} 0 1 = cc in omega arith
+
 reads-on : answerTo toy map1 (Read 0x001) (after toy map1 passing wrote) ≡ Done 0x55
 unfolding everything passing wrote
 reads-on = refl
 
 stored-on : 0x55 ≡ usedValue map1 0x003 0x55
 unfolding wrote after
-stored-on = toy-beyond .lasting (off blank) (right blank refl) [] [] woken 0x003 0x55 (lit< tt) allowed passing (λ z. absurd (not-zero z)) 0x001 0x55 one-granule reads-on
+stored-on = toy-beyond .lasting (off blank) (right blank refl) [] [] woken 0x003 0x55 (lit< tt) allowed passing (λ z. absurd (not-zero z)) (λ e. absurd (not-old e)) 0x001 0x55 one-granule reads-on
 
 -- a write of zero leaves its granule blank: it reads 0 as long as no other write to the granule answers 0
 allowed-zero : Allowed toy map1 (off blank .lent .constants) blank (machineAfter toy map1 PowerUp (off blank) .lent .cells) 0x003 0
@@ -140,13 +145,13 @@ zero-read = refl
 
 zero-on : 0 ≡ usedValue map1 0x003 0
 unfolding wrote-zero after
-zero-on = toy-beyond .lasting (off blank) (right blank refl) [] [] woken 0x003 0 (lit< tt) allowed-zero sparing (λ z. passed) 0x001 0 one-granule zero-read
+zero-on = toy-beyond .lasting (off blank) (right blank refl) [] [] woken 0x003 0 (lit< tt) allowed-zero sparing (λ z. passed) (λ e. passed) 0x001 0 one-granule zero-read
 
 -- ---- nothing is burnt twice: the write of 0x55 at 0x003 found words 0 and 1 blank, and whatever else is written there, 0x55 stands
 
 found-word : getD (after toy map1 (PowerUp ∷ []) (off blank) .lent .cells) 1 0 ≡ 0
 found-word =
-    toy-beyond .taken (off blank) (PowerUp ∷ []) (Write 0x003 0x55) 0 (0x55 ∷ 0 ∷ []) (unfold everything in writing) (unfold everything in refl) 1 (omega arith) (lit< tt)
+    toy-beyond .taken (off blank) (PowerUp ∷ []) (Write 0x003 0x55) 0 (0x55 ∷ 0 ∷ []) (unfold everything in (writing refl)) (unfold everything in refl) 1 (omega arith) (lit< tt)
 
 -- a digest command found the four words of HW_CFG's digest blank
 found-digest : getD (after toy map1 (PowerUp ∷ []) (off blank) .lent .cells) 295 0 ≡ 0
@@ -159,7 +164,7 @@ burnt-word = refl
 
 word-left : getD (machineAfter toy map1 (Write 0x003 0xFF) wrote .lent .cells) 0 0 ≡ getD (wrote .lent .cells) 0 0
 unfolding after
-word-left = toy-beyond .burns wrote [] (Write 0x003 0xFF) 0 (0xFF ∷ 0 ∷ []) (unfold everything in writing) 0 (λ z. omega (arith, burnt-word))
+word-left = toy-beyond .burns wrote [] (Write 0x003 0xFF) 0 (0xFF ∷ 0 ∷ []) (unfold everything in (writing refl)) 0 (λ z. omega (arith, burnt-word))
 
 granule-held : granule (partitionAt map1 0x001) (wrote .lent .cells) 0x001 ≡ 0x55
 unfolding everything wrote
@@ -170,7 +175,7 @@ granule-left : let p = partitionAt map1 0x001 in
     ≡ partAt (wrote .lent .cells) (firstWord p 0x001) (wordCount p 0x001)
 unfolding after
 granule-left =
-    toy-beyond .granules wrote 0x001 (unfold everything in (lit< tt)) (unfold everything in refl) [] (passing ++ staying) (λ z. omega (arith, granule-held))
+    toy-beyond .granules wrote 0x001 (unfold everything in (lit< tt)) (unfold everything in refl) (unfold everything in refl) [] (passing ++ staying) (λ z. omega (arith, granule-held))
 
 -- ---- which word: the second of a granule that a write meets, the lowest of a digest given again, a counter word and a state word
 

@@ -107,6 +107,7 @@ module _ {p : Partition} (f : FitPartition p) where
 -- the granules of two addresses are one
 pub record OneGranule (map : Map) (a b : ℕ) : Type 0 where
   pub number : numberAt map a ≡ numberAt map b
+  pub side : inDigest (partitionAt map a) a ≡ inDigest (partitionAt map b) b
   pub first : firstWord (partitionAt map a) a ≡ firstWord (partitionAt map b) b
   pub count : wordCount (partitionAt map a) a ≡ wordCount (partitionAt map b) b
 
@@ -131,7 +132,7 @@ module _ (map : Map) (fits : fit map ≡ true) where
     word-granule =
         let w = word-inside in
         let e : partitionAt map (2 * j) ≡ partitionAt map a = partition-at map (2 * j) word-number ∙ sym (partition-at map a refl) in
-        record { number = word-number; first = rw e (w .first); count = rw e (w .count) }
+        record { number = word-number; side = rw e (w .side); first = rw e (w .first); count = rw e (w .count) }
 
   -- granules that share a word are one
   pub shared-word : {a b j : ℕ} → a < limit map → b < limit map
@@ -141,7 +142,7 @@ module _ (map : Map) (fits : fit map ≡ true) where
   shared-word h k l u m v =
       let x = word-granule h l u in
       let y = word-granule k m v in
-      record { number = sym (x .number) ∙ y .number; first = sym (x .first) ∙ y .first; count = sym (x .count) ∙ y .count }
+      record { number = sym (x .number) ∙ y .number; side = sym (x .side) ∙ y .side; first = sym (x .first) ∙ y .first; count = sym (x .count) ∙ y .count }
 
   -- the four words of a digest
   pub digest-word : {n j : ℕ} → n < length map → rightsOf (partition map n .kind) .direct ≡ true

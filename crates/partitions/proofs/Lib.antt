@@ -1,4 +1,4 @@
 pub mod KindRights
 pub mod Map
 pub mod Granules
-pub mod Map1
+pub mod Maps

@@ -6,13 +6,13 @@ use Prim.Native.Nat.{ℕ, zero, suc, _+_, _*_, _/_, _%_, _≤_, _<_}
 use native.Mathlib.Omega.{arith}
 use lib.Dec.{eqb, leb, ltb}
 use lib.ListN.{length, List·getD-eq-default}
-use borrow.Author.Tests.{eqb-true, ltb-true, ltb-false, lt-ltb, le-ltb, le-leb, not-true}
+use borrow.Author.Tests.{eqb-true, leb-true, ltb-true, ltb-false, lt-ltb, le-ltb, le-leb, not-true}
 use Rattle.basics.specs.Choice.{if_then_else_}
 use Rattle.basics.proofs.Choice.{by-cases, true-not-false, not-passed, and-left, and-right, and-both, and-three, if-true, if-false}
 use Rattle.partitions.specs.declared.Partition.{Partition}
-use Rattle.partitions.specs.declared.Kind.the-variants.{LifeCycle}
+use Rattle.partitions.specs.declared.Kind.the-variants.{Secret0, Secret1, Secret2, LifeCycle}
 use Rattle.partitions.specs.Map.{Map, rightsOf, holds, numberAt, nowhere, partition, partitionAt, limit, numberOfKind}
-use Rattle.partitions.specs.Fitness.{placed, digested, lifeCycleWords, fitFrom, fit}
+use Rattle.partitions.specs.Fitness.{placed, digested, lifeCycleWords, fitFrom, once, fit}
 use Rattle.partitions.proofs.KindRights.{life-cycle-direct}
 
 -- what each partition of a fit map is like
@@ -235,42 +235,57 @@ direct-known map n e =
     by-cases (ltb n (length map)) (ltb-true _ _)
     (λ t. absurd (true-not-false e (ap (λ (p : Partition). rightsOf (p .kind) .direct) (partition-past map (ltb-false _ _ t)))))
 
+-- the tests of a whole map, read as facts
+pub record Fit (map : Map) : Type 0 where
+  pub in-order : fitFrom 0 map ≡ true
+  pub few : length map ≤ 11
+  pub short : limit map ≤ 2048
+
+pub is-fit : (map : Map) → fit map ≡ true → Fit map
+unfolding fit
+is-fit map h =
+    let s = and-three (fitFrom 0 map && leb (length map) 11 && leb (limit map) 2048 && once map Secret0 40) (once map Secret1 88) _ h in
+    let t = and-three (fitFrom 0 map && leb (length map) 11) (leb (limit map) 2048) _ (s .0) in
+    record { in-order = and-left (fitFrom 0 map) _ (t .0); few = leb-true _ _ (and-right (fitFrom 0 map) _ (t .0)); short = leb-true _ _ (t .1) }
+
 module _ (map : Map) (fits : fit map ≡ true) where
+  from-zero : fitFrom 0 map ≡ true
+  from-zero = is-fit map fits .in-order
+
+  -- a partition with a digest stands before the last one, so that ten sensed digests are enough
+  pub digest-below-ten : {n : ℕ} → rightsOf (partition map n .kind) .direct ≡ true → n < 10
+  digest-below-ten {n} e =
+      let k = direct-known map n e in
+      let last : suc n ≡ length map → ⊥ = λ l. true-not-false e (last-from map 0 n from-zero l .closed) in
+      omega (arith, is-fit map fits .few)
+
   pub inside : {a : ℕ} → a < limit map → Inside map a
-  unfolding fit
-  inside {a} h = inside-from map 0 a fits (omega arith) h
+  inside {a} h = inside-from map 0 a from-zero (omega arith) h
 
   pub outside : {a : ℕ} → limit map ≤ a → numberAt map a ≡ length map
-  unfolding fit
-  outside {a} h = outside-from map 0 a fits h
+  outside {a} h = outside-from map 0 a from-zero h
 
   -- "lies in exactly one partition"
   pub only : {n a : ℕ} → n < length map → partition map n .start ≤ a → a < partition map n .end → numberAt map a ≡ n
-  unfolding fit
-  only {n} {a} h l u = only-from map 0 n a fits h l u
+  only {n} {a} h l u = only-from map 0 n a from-zero h l u
 
   pub partition-fit : {n : ℕ} → n < length map → FitPartition (partition map n)
-  unfolding fit
-  partition-fit {n} h = member-from map 0 n fits h .fits
+  partition-fit {n} h = member-from map 0 n from-zero h .fits
 
   pub partition-word : {n j : ℕ} → n < length map → partition map n .start / 2 ≤ j → j < partition map n .end / 2 → numberAt map (2 * j) ≡ n
   partition-word h l u = let f = partition-fit h in only h (omega (arith, f .start-aligned)) (omega arith)
 
   pub end-within : {n : ℕ} → n < length map → partition map n .end ≤ limit map
-  unfolding fit
-  end-within {n} h = member-from map 0 n fits h .within
+  end-within {n} h = member-from map 0 n from-zero h .within
 
   pub direct-before-last : {n : ℕ} → suc n < length map → rightsOf (partition map n .kind) .direct ≡ true
-  unfolding fit
-  direct-before-last {n} h = direct-from map 0 n fits h
+  direct-before-last {n} h = direct-from map 0 n from-zero h
 
   pub last-partition : {n : ℕ} → suc n ≡ length map → LastPartition map n
-  unfolding fit
-  last-partition {n} e = last-from map 0 n fits e
+  last-partition {n} e = last-from map 0 n from-zero e
 
   pub life-cycle-last : suc (numberOfKind map LifeCycle) ≡ length map
-  unfolding fit
-  life-cycle-last = life-cycle-from map 0 fits
+  life-cycle-last = life-cycle-from map 0 from-zero
 
   pub life-cycle-partition : LastPartition map (numberOfKind map LifeCycle)
   life-cycle-partition = last-partition life-cycle-last

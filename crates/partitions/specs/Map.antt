@@ -6,25 +6,31 @@ use lib.Dec.{eqb, leb, ltb}
 use lib.ListN.{getD}
 use Rattle.basics.specs.Choice.{if_then_else_}
 use Rattle.partitions.specs.declared.Kind.{Kind}
-use Rattle.partitions.specs.declared.Kind.the-variants.{Software, HwCfg, Secret0, Secret1, Secret2, LifeCycle}
+use Rattle.partitions.specs.declared.Kind.the-variants.{Software, AuthState, HwCfg, Secret0, Secret1, Secret2, LifeCycle}
 use Rattle.partitions.specs.declared.Rights.{Rights}
 use Rattle.partitions.specs.declared.Partition.{Partition}
 
--- What document 01 grants a kind, in this order: direct access, a run-time read lock, a hardware digest, scrambled data, front reads.
-abbrev pub granted : Bool → Bool → Bool → Bool → Bool → Rights
-granted direct lockable hardware scrambled front =
-    record { direct = direct; lockable = lockable; hardware = hardware; scrambled = scrambled; front = front }
+-- What documents 01 and 02 grant a kind, in this order: direct access, a run-time read lock, a hardware digest, scrambled data, front reads, and data that
+-- keep the old rule of programming under request Three.
+abbrev pub granted : Bool → Bool → Bool → Bool → Bool → Bool → Rights
+granted direct lockable hardware scrambled front additive =
+    record { direct = direct; lockable = lockable; hardware = hardware; scrambled = scrambled; front = front; additive = additive }
 
 unfoldable pub rightsOf : Kind → Rights
-rightsOf Software = granted true true false false false
-rightsOf HwCfg = granted true false true false true
-rightsOf Secret0 = granted true false true true false
-rightsOf Secret1 = granted true false true true false
-rightsOf Secret2 = granted true false true true false
-rightsOf LifeCycle = granted false false false false false
+rightsOf Software = granted true true false false false false
+rightsOf AuthState = granted true true false false false true
+rightsOf HwCfg = granted true false true false true false
+rightsOf Secret0 = granted true false true true false false
+rightsOf Secret1 = granted true false true true false false
+rightsOf Secret2 = granted true false true true false false
+rightsOf LifeCycle = granted false false false false false false
 
 abbrev pub Map : Type 0
 Map = List Partition
+
+-- a partition, as a row of a map
+abbrev pub row : Kind → ℕ → ℕ → ℕ → ℕ → Partition
+row kind start digest end granule = record { kind = kind; start = start; digest = digest; end = end; granule = granule }
 
 -- "Each address .. lies in exactly one partition, found by its range."
 unfoldable pub holds : Partition → ℕ → Bool
@@ -71,11 +77,12 @@ wordCount p a = granuleAt p a / 2
 -- kinds told apart by a number, and the number of the first partition of a kind
 unfoldable pub kindNumber : Kind → ℕ
 kindNumber Software = 0
-kindNumber HwCfg = 1
-kindNumber Secret0 = 2
-kindNumber Secret1 = 3
-kindNumber Secret2 = 4
-kindNumber LifeCycle = 5
+kindNumber AuthState = 1
+kindNumber HwCfg = 2
+kindNumber Secret0 = 3
+kindNumber Secret1 = 4
+kindNumber Secret2 = 5
+kindNumber LifeCycle = 6
 
 unfoldable pub numberOfKind : Map → Kind → ℕ
 numberOfKind [] k = 0

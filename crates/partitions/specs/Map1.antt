@@ -1,13 +1,7 @@
 -- Map 1, row by row: kind, start, digest address, end, granule of the data. LIFE_CYCLE has no digest: its digest address is its end.
-use Prim.Native.Nat.{ℕ}
 use mathlib.Core.List.{[], _∷_}
-use Rattle.partitions.specs.declared.Kind.{Kind}
 use Rattle.partitions.specs.declared.Kind.the-variants.{Software, HwCfg, Secret0, Secret1, Secret2, LifeCycle}
-use Rattle.partitions.specs.declared.Partition.{Partition}
-use Rattle.partitions.specs.Map.{Map}
-
-abbrev pub row : Kind → ℕ → ℕ → ℕ → ℕ → Partition
-row kind start digest end granule = record { kind = kind; start = start; digest = digest; end = end; granule = granule }
+use Rattle.partitions.specs.Map.{Map, row}
 
 unfoldable pub map1 : Map
 map1 =

@@ -1,10 +1,17 @@
-// The partitions of the fuse array: kinds and their rights, and Map 1, whose partitions are types with constants of their own.
+// The partitions of the fuse array: kinds and their rights, and the two maps by name. The partitions of a map are types with constants of their own,
+// in the map's module.
+pub mod map1;
+pub mod map2;
+
 ghost use mathlib.Core.Path.{_≡_};
-ghost use Rattle.partitions.specs.Map.{rightsOf, numberAt, partition, granuleAt, firstWord, wordCount};
-ghost use Rattle.partitions.specs.Map1.{map1};
+ghost use Prim.Native.Nat.{_/_};
+ghost use lib.ListN.{length};
+ghost use Rattle.partitions.specs.Map.{rightsOf, numberAt, partition, limit, granuleAt, firstWord, wordCount, numberOfKind};
+ghost use Rattle.partitions.specs.Maps.{mapOf};
 
 pub enum Kind {
     Software,
+    AuthState,
     HwCfg,
     Secret0,
     Secret1,
@@ -12,13 +19,14 @@ pub enum Kind {
     LifeCycle,
 }
 
-// What a kind is granted: direct access, a run-time read lock, a hardware digest, scrambled data, front reads.
+// What a kind is granted: direct access, a run-time read lock, a hardware digest, scrambled data, front reads, bits added to data that is not blank.
 pub struct Rights {
     pub direct: bool,
     pub lockable: bool,
     pub hardware: bool,
     pub scrambled: bool,
     pub front: bool,
+    pub additive: bool,
 }
 
 // A partition in byte addresses: where it starts, where its digest is, the first address past it, and the granule of its data.
@@ -38,6 +46,16 @@ impl Rights {
         hardware: false,
         scrambled: false,
         front: false,
+        additive: false,
+    };
+
+    const AUTH_STATE: Rights = Rights {
+        direct: true,
+        lockable: true,
+        hardware: false,
+        scrambled: false,
+        front: false,
+        additive: true,
     };
 
     const HW_CFG: Rights = Rights {
@@ -46,6 +64,7 @@ impl Rights {
         hardware: true,
         scrambled: false,
         front: true,
+        additive: false,
     };
 
     const SECRET: Rights = Rights {
@@ -54,6 +73,7 @@ impl Rights {
         hardware: true,
         scrambled: true,
         front: false,
+        additive: false,
     };
 
     const LIFE_CYCLE: Rights = Rights {
@@ -62,6 +82,7 @@ impl Rights {
         hardware: false,
         scrambled: false,
         front: false,
+        additive: false,
     };
 }
 
@@ -71,6 +92,7 @@ impl Kind {
     {
         match self {
             Kind::Software => Rights::SOFTWARE,
+            Kind::AuthState => Rights::AUTH_STATE,
             Kind::HwCfg => Rights::HW_CFG,
             Kind::Secret0 => Rights::SECRET,
             Kind::Secret1 => Rights::SECRET,
@@ -88,7 +110,7 @@ pub struct Granule {
 
 impl Partition {
     // No bytes and no rights.
-    const NOWHERE: Partition = Partition {
+    pub const NOWHERE: Partition = Partition {
         kind: Kind::LifeCycle,
         start: 0,
         digest: 0,
@@ -127,201 +149,67 @@ impl Partition {
     }
 }
 
-// CREATOR_SW_CFG
-pub struct CreatorSwCfg {}
-
-impl CreatorSwCfg {
-    pub const NUMBER: usize = 0;
-
-    pub const START: usize = 0x000;
-
-    pub const DIGEST: usize = 0x0F8;
-
-    pub const END: usize = 0x100;
-
-    pub const GRANULE: usize = 4;
-
-    const PARTITION: Partition = Partition {
-        kind: Kind::Software,
-        start: CreatorSwCfg::START,
-        digest: CreatorSwCfg::DIGEST,
-        end: CreatorSwCfg::END,
-        granule: CreatorSwCfg::GRANULE,
-    };
+// The maps that a caller can name.
+pub enum MapName {
+    Map1,
+    Map2,
 }
 
-// OWNER_SW_CFG
-pub struct OwnerSwCfg {}
-
-impl OwnerSwCfg {
-    pub const NUMBER: usize = 1;
-
-    pub const START: usize = 0x100;
-
-    pub const DIGEST: usize = 0x1F8;
-
-    pub const END: usize = 0x200;
-
-    pub const GRANULE: usize = 4;
-
-    const PARTITION: Partition = Partition {
-        kind: Kind::Software,
-        start: OwnerSwCfg::START,
-        digest: OwnerSwCfg::DIGEST,
-        end: OwnerSwCfg::END,
-        granule: OwnerSwCfg::GRANULE,
-    };
-}
-
-// HW_CFG: DEVICE_ID in its first 32 bytes
-pub struct HwCfgPartition {}
-
-impl HwCfgPartition {
-    pub const NUMBER: usize = 2;
-
-    pub const START: usize = 0x200;
-
-    pub const DIGEST: usize = 0x248;
-
-    pub const END: usize = 0x250;
-
-    pub const GRANULE: usize = 4;
-
-    const PARTITION: Partition = Partition {
-        kind: Kind::HwCfg,
-        start: HwCfgPartition::START,
-        digest: HwCfgPartition::DIGEST,
-        end: HwCfgPartition::END,
-        granule: HwCfgPartition::GRANULE,
-    };
-}
-
-// SECRET0: TEST_UNLOCK and TEST_EXIT tokens
-pub struct Secret0Partition {}
-
-impl Secret0Partition {
-    pub const NUMBER: usize = 3;
-
-    pub const START: usize = 0x250;
-
-    pub const DIGEST: usize = 0x270;
-
-    pub const END: usize = 0x278;
-
-    pub const GRANULE: usize = 8;
-
-    const PARTITION: Partition = Partition {
-        kind: Kind::Secret0,
-        start: Secret0Partition::START,
-        digest: Secret0Partition::DIGEST,
-        end: Secret0Partition::END,
-        granule: Secret0Partition::GRANULE,
-    };
-}
-
-// SECRET1: flash address, flash data and SRAM seeds
-pub struct Secret1Partition {}
-
-impl Secret1Partition {
-    pub const NUMBER: usize = 4;
-
-    pub const START: usize = 0x278;
-
-    pub const DIGEST: usize = 0x2C8;
-
-    pub const END: usize = 0x2D0;
-
-    pub const GRANULE: usize = 8;
-
-    const PARTITION: Partition = Partition {
-        kind: Kind::Secret1,
-        start: Secret1Partition::START,
-        digest: Secret1Partition::DIGEST,
-        end: Secret1Partition::END,
-        granule: Secret1Partition::GRANULE,
-    };
-}
-
-// SECRET2: RMA token and two root key shares
-pub struct Secret2Partition {}
-
-impl Secret2Partition {
-    pub const NUMBER: usize = 5;
-
-    pub const START: usize = 0x2D0;
-
-    pub const DIGEST: usize = 0x320;
-
-    pub const END: usize = 0x328;
-
-    pub const GRANULE: usize = 8;
-
-    const PARTITION: Partition = Partition {
-        kind: Kind::Secret2,
-        start: Secret2Partition::START,
-        digest: Secret2Partition::DIGEST,
-        end: Secret2Partition::END,
-        granule: Secret2Partition::GRANULE,
-    };
-}
-
-// LIFE_CYCLE: 24 counter words, then 20 state words; no digest, so that its digest address is its end
-pub struct LifeCyclePartition {}
-
-impl LifeCyclePartition {
-    pub const NUMBER: usize = 6;
-
-    pub const START: usize = 0x328;
-
-    pub const DIGEST: usize = 0x380;
-
-    pub const END: usize = 0x380;
-
-    pub const GRANULE: usize = 4;
-
-    const PARTITION: Partition = Partition {
-        kind: Kind::LifeCycle,
-        start: LifeCyclePartition::START,
-        digest: LifeCyclePartition::DIGEST,
-        end: LifeCyclePartition::END,
-        granule: LifeCyclePartition::GRANULE,
-    };
-}
-
-// How many partitions Map 1 has.
-pub const COUNT: usize = 7;
-
-// How many words of 16 bits the fuse array has, 448: one for every two bytes of the map.
-pub const WORDS: usize = LifeCyclePartition::END / 2;
-
-// The number of the partition that holds a byte address, or COUNT where none does.
-pub fn number_at(address: usize) -> usize
-    ensures { λ r. ⌜ r ≡ numberAt map1 address ⌝ }
-{
-    match address {
-        CreatorSwCfg::START..CreatorSwCfg::END => CreatorSwCfg::NUMBER,
-        OwnerSwCfg::START..OwnerSwCfg::END => OwnerSwCfg::NUMBER,
-        HwCfgPartition::START..HwCfgPartition::END => HwCfgPartition::NUMBER,
-        Secret0Partition::START..Secret0Partition::END => Secret0Partition::NUMBER,
-        Secret1Partition::START..Secret1Partition::END => Secret1Partition::NUMBER,
-        Secret2Partition::START..Secret2Partition::END => Secret2Partition::NUMBER,
-        LifeCyclePartition::START..LifeCyclePartition::END => LifeCyclePartition::NUMBER,
-        _ => COUNT,
+impl MapName {
+    // How many partitions the map has.
+    pub fn count(self) -> usize
+        ensures { λ r. ⌜ r ≡ length (mapOf self) ⌝ }
+    {
+        match self {
+            MapName::Map1 => map1::COUNT,
+            MapName::Map2 => map2::COUNT,
+        }
     }
-}
 
-// The partition of a number, or nowhere past the last one.
-pub fn partition_of(number: usize) -> Partition
-    ensures { λ r. ⌜ r ≡ partition map1 number ⌝ }
-{
-    match number {
-        CreatorSwCfg::NUMBER => CreatorSwCfg::PARTITION,
-        OwnerSwCfg::NUMBER => OwnerSwCfg::PARTITION,
-        HwCfgPartition::NUMBER => HwCfgPartition::PARTITION,
-        Secret0Partition::NUMBER => Secret0Partition::PARTITION,
-        Secret1Partition::NUMBER => Secret1Partition::PARTITION,
-        Secret2Partition::NUMBER => Secret2Partition::PARTITION,
-        LifeCyclePartition::NUMBER => LifeCyclePartition::PARTITION,
-        _ => Partition::NOWHERE,
+    // The first byte address past the map.
+    pub fn limit(self) -> usize
+        ensures { λ r. ⌜ r ≡ limit (mapOf self) ⌝ }
+    {
+        match self {
+            MapName::Map1 => map1::LifeCycle::END,
+            MapName::Map2 => map2::LifeCycle::END,
+        }
+    }
+
+    // How many words of 16 bits its fuse array has.
+    pub fn words(self) -> usize
+        ensures { λ r. ⌜ r ≡ limit (mapOf self) / 2 ⌝ }
+    {
+        self.limit() / 2
+    }
+
+    // The number of the partition that holds a byte address, or the count where none does.
+    pub fn number_at(self, address: usize) -> usize
+        ensures { λ r. ⌜ r ≡ numberAt (mapOf self) address ⌝ }
+    {
+        match self {
+            MapName::Map1 => map1::number_at(address),
+            MapName::Map2 => map2::number_at(address),
+        }
+    }
+
+    // The partition of a number, or nowhere past the last one.
+    pub fn partition_of(self, number: usize) -> Partition
+        ensures { λ r. ⌜ r ≡ partition (mapOf self) number ⌝ }
+    {
+        match self {
+            MapName::Map1 => map1::partition_of(number),
+            MapName::Map2 => map2::partition_of(number),
+        }
+    }
+
+    // The number of the first partition of a kind, or the count where there is none.
+    pub fn number_of_kind(self, kind: Kind) -> usize
+        ensures { λ r. ⌜ r ≡ numberOfKind (mapOf self) kind ⌝ }
+    {
+        match self {
+            MapName::Map1 => map1::number_of_kind(kind),
+            MapName::Map2 => map2::number_of_kind(kind),
+        }
     }
 }

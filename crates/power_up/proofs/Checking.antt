@@ -25,7 +25,7 @@ data-within map fits h =
     let f = partition-fit map fits h in
     (f .data-first, omega (arith, f .digest-last, end-within map fits h))
 
-module _ (prims : Primitives) (map : Map) (constants cells : List ℕ) where
+module _ (prims : Primitives) (constants cells : List ℕ) where
   -- ---- one partition
 
   pub none-due : (p : Partition) → rightsOf (p .kind) .hardware ≡ false → true ≡ digestHolds prims constants cells p
@@ -41,6 +41,7 @@ module _ (prims : Primitives) (map : Map) (constants cells : List ℕ) where
   unfolding digestHolds
   compared p e z = rw (e, ne-eqb (storedDigest p cells) 0 z)
 
+module _ (prims : Primitives) (map : Map) (constants cells : List ℕ) where
   -- ---- all of them
 
   pub check-next : (n : ℕ) → n < length map → digestHolds prims constants cells (partition map n) ≡ true

@@ -1,19 +1,17 @@
--- How a power-up ends, against what the code finds. The idea: once it is known how it ends, the definitions compute at Map 1.
+-- How a power-up ends, against what the code finds. The idea: once it is known how it ends, the definitions say what is left.
 use mathlib.Core.Path.{_≡_, refl, sym, ap, ap₂, _∙_}
-use mathlib.Core.Bool.{false}
-use mathlib.Core.List.{List, [], _∷_}
+use mathlib.Core.Bool.{true}
+use mathlib.Core.List.{List}
 use mathlib.Core.Option.{Option, none, some}
-use Prim.Native.Nat.{ℕ, _+_, _*_}
+use Prim.Native.Nat.{ℕ, _+_, _*_, _-_, _/_}
 use native.Mathlib.Omega.{arith}
 use lib.ListN.{length, take, drop}
 use borrow.Author.Tests.{eq-eqb, ne-eqb}
-use Rattle.basics.specs.Choice.{if_then_else_}
 use Rattle.basics.specs.Range.{listed}
 use Rattle.basics.proofs.Choice.{if-true, if-false}
 use Rattle.words.proofs.Parts.{part-slice}
-use Rattle.partitions.specs.declared.Partition.{Partition}
-use Rattle.partitions.specs.Map.{rightsOf, partition, limit}
-use Rattle.partitions.specs.Map1.{map1}
+use Rattle.partitions.specs.Map.{Map, limit}
+use Rattle.partitions.specs.Fitness.{fit}
 use Rattle.life_cycle.specs.declared.LifeCycle.{LifeCycle}
 use Rattle.life_cycle.specs.declared.LifeCycle.the-variants.{Valid, Invalid}
 use Rattle.life_cycle.specs.Words.{decoded}
@@ -25,54 +23,56 @@ use Rattle.model.specs.declared.Answer.the-variants as answer
 use Rattle.model.specs.declared.Command.the-variants.{PowerUp}
 use Rattle.model.specs.declared.Outcome.{Outcome}
 use Rattle.model.specs.Lent.{Lent, Machine}
-use Rattle.model.specs.Commands.{storedDigest}
-use Rattle.model.specs.PowerUp.{digests, noLocks, Waking, fails, wakes, lifeCycleWaking, wakingOf, firstFailing, verdictOf, lifeCycleIn, copyWord, wokenCopy, wokenSession, wokenAnswer, waking}
+use Rattle.model.specs.Session.{noLocks}
+use Rattle.model.specs.Commands.{counterAt, stateAt}
+use Rattle.model.specs.PowerUp.{digests, Waking, fails, wakes, lifeCycleWaking, wakingOf, firstFailing, verdictOf, lifeCycleIn, copyWord, wokenCopy, wokenSession, wokenAnswer, waking}
 use Rattle.model.specs.Step.{obey, powerUp}
-use Rattle.model.proofs.LifeCyclePlace.{counter-place, state-place}
+use Rattle.chip.proofs.LifeCyclePlace.{counter-words-end, state-words-end}
 use Rattle.chip.specs.Chip.{primitives, resultOf}
 use Rattle.power_up.specs.declared.Verdict.the-variants.{Passed, Failed}
 use Rattle.power_up.specs.Waking.{verdictIn, wokenResult, deadOutcome}
 
--- ---- Map 1: six partitions have digests, and the life cycle words stand last
+-- ---- the life cycle words stand last
 
-pub six-digests : (f : Partition → ℕ) → listed (λ n. f (partition map1 n)) 0 6 ≡ digests f map1
-unfolding listed digests partition map1 rightsOf if_then_else_
-six-digests f = refl
-
-pub life-cycle-slices : (l : Lent) → length (l .cells) ≡ 448
-    → decoded (l .constants) (take 24 (drop 404 (l .cells))) (take 20 (drop 428 (l .cells))) ≡ lifeCycleIn map1 l
+pub life-cycle-slices : (map : Map) → fit map ≡ true → (l : Lent) {counter state end : ℕ} → counter ≡ counterAt map → state ≡ stateAt map → end ≡ limit map / 2
+    → length (l .cells) ≡ limit map / 2
+    → decoded (l .constants) (take (state - counter) (drop counter (l .cells))) (take (end - state) (drop state (l .cells))) ≡ lifeCycleIn map l
 unfolding lifeCycleIn
-life-cycle-slices l e =
-    rw (← counter-place primitives, ← state-place primitives)
-    (ap₂ (decoded (l .constants)) (sym (part-slice (l .cells) 404 24 (omega arith))) (sym (part-slice (l .cells) 428 20 (omega arith))))
+life-cycle-slices map fits l {counter} {state} {end} c s e n =
+    let a = counter-words-end map fits in
+    let b = state-words-end map fits in
+    let x : state - counter ≡ 24 = omega arith in
+    let y : end - state ≡ 20 = omega arith in
+    rw (x, y, ← c, ← s)
+    (ap₂ (decoded (l .constants)) (sym (part-slice (l .cells) counter 24 (omega arith))) (sym (part-slice (l .cells) state 20 (omega arith))))
 
 -- ---- the two ends
 
-pub woken-as : (w : Lent → Waking) (l : Lent) {x : Waking} → w l ≡ x → wokenResult w l ≡ wokenResult (λ l. x) l
-woken-as w l e = ap (λ (y : Waking). wokenResult (λ l. y) l) e
+pub woken-as : (map : Map) (w : Lent → Waking) (l : Lent) {x : Waking} → w l ≡ x → wokenResult map w l ≡ wokenResult map (λ l. x) l
+woken-as map w l e = ap (λ (y : Waking). wokenResult map (λ l. y) l) e
 
-dead-end : (r : Reason) (a : Answer) (l : Lent) → resultOf (l .cells) (listed (λ j. 0) 0 448) (l .constants) (deadOutcome r a) ≡ wokenResult (λ l. fails r a) l
-unfolding wokenCopy wokenSession wokenAnswer digests noLocks limit map1 rightsOf if_then_else_
-dead-end r a l = refl
+dead-end : (map : Map) (r : Reason) (a : Answer) (l : Lent) → resultOf (l .cells) (listed (λ j. 0) 0 (limit map / 2)) (l .constants) (deadOutcome r a) ≡ wokenResult map (λ l. fails r a) l
+unfolding wokenCopy wokenSession wokenAnswer
+dead-end map r a l = refl
 
-pub dead-result : (w : Lent → Waking) (l : Lent) {r : Reason} {a : Answer} {copy : List ℕ} {o : Outcome} → w l ≡ fails r a → length (l .copy) ≡ 448
-    → copy ≡ listed (λ j. 0) 0 (length (l .copy)) → o ≡ deadOutcome r a → resultOf (l .cells) copy (l .constants) o ≡ wokenResult w l
-dead-result w l f n e q = rw (e, n, q) (dead-end _ _ l ∙ sym (woken-as w l f))
+pub dead-result : (map : Map) (w : Lent → Waking) (l : Lent) {r : Reason} {a : Answer} {copy : List ℕ} {o : Outcome} → w l ≡ fails r a → length (l .copy) ≡ limit map / 2
+    → copy ≡ listed (λ j. 0) 0 (length (l .copy)) → o ≡ deadOutcome r a → resultOf (l .cells) copy (l .constants) o ≡ wokenResult map w l
+dead-result map w l f n e q = rw (e, n, q) (dead-end map _ _ l ∙ sym (woken-as map w l f))
 
-pub ready-result : (state count : ℕ) (l : Lent) {copy sensed : List ℕ} {value : ℕ}
-    → copy ≡ listed (copyWord primitives map1 (l .constants) (l .cells)) 0 448 → sensed ≡ digests (λ p. storedDigest p (l .cells)) map1
+pub ready-result : (map : Map) (state count : ℕ) (l : Lent) {copy sensed : List ℕ} {value : ℕ}
+    → copy ≡ listed (copyWord primitives map (l .constants) (l .cells)) 0 (limit map / 2) → sensed ≡ digests (l .cells) map
     → value ≡ 256 * count + state
     → resultOf (l .cells) copy (l .constants)
-    (record { session = record { phase = Ready; sensed = sensed; locks = false ∷ false ∷ []; state = state; count = count }; answer = answer.Done value })
-    ≡ wokenResult (λ l. wakes state count) l
-unfolding wokenCopy wokenSession wokenAnswer noLocks limit map1 rightsOf if_then_else_
-ready-result state count l e s v = rw (e, s, v)
+    (record { session = record { phase = Ready; sensed = sensed; locks = noLocks; state = state; count = count }; answer = answer.Done value })
+    ≡ wokenResult map (λ l. wakes state count) l
+unfolding wokenCopy wokenSession wokenAnswer
+ready-result map state count l e s v = rw (e, s, v)
 
 -- ---- which end
 
-pub powered-up : (m : Machine) → obey primitives map1 PowerUp m .result ≡ wokenResult (waking primitives map1) (m .lent)
+pub powered-up : (map : Map) (m : Machine) → obey primitives map PowerUp m .result ≡ wokenResult map (waking primitives map) (m .lent)
 unfolding obey powerUp
-powered-up m = refl
+powered-up map m = refl
 
 failed-by : (v : Option ℕ) (life : LifeCycle) (n : ℕ) → Failed n ≡ verdictIn v → wakingOf v life ≡ fails reason.DigestFailed (answer.DigestFailed n)
 unfolding wakingOf
@@ -84,18 +84,18 @@ unfolding wakingOf
 passed-by none life e = refl
 passed-by (some k) life e = absurd (let z : _≡_ {A = ℕ} 0 1 = cc in omega arith)
 
-module _ (l : Lent) where
+module _ (map : Map) (l : Lent) where
   abbrev life : LifeCycle
-  life = lifeCycleIn map1 l
+  life = lifeCycleIn map l
 
   abbrev verdict : Option ℕ
-  verdict = firstFailing primitives (l .constants) (l .cells) 0 map1
+  verdict = firstFailing primitives (l .constants) (l .cells) 0 map
 
-  pub failed : (n : ℕ) → Failed n ≡ verdictIn verdict → waking primitives map1 l ≡ fails reason.DigestFailed (answer.DigestFailed n)
+  pub failed : (n : ℕ) → Failed n ≡ verdictIn verdict → waking primitives map l ≡ fails reason.DigestFailed (answer.DigestFailed n)
   unfolding waking verdictOf
   failed n e = failed-by verdict life n e
 
-  pub passed : Passed ≡ verdictIn verdict → waking primitives map1 l ≡ lifeCycleWaking life
+  pub passed : Passed ≡ verdictIn verdict → waking primitives map l ≡ lifeCycleWaking life
   unfolding waking verdictOf
   passed e = passed-by verdict life e
 

@@ -1,13 +1,13 @@
 -- What a power-up leaves once it is known how it ends.
 use Prim.Native.Nat.{ℕ}
-use mathlib.Core.Bool.{false}
-use mathlib.Core.List.{List, [], _∷_}
+use mathlib.Core.List.{List}
 use mathlib.Core.Option.{Option, none, some}
-use Rattle.partitions.specs.Map1.{map1}
+use Rattle.partitions.specs.Map.{Map}
 use Rattle.model.specs.declared.Reason.{Reason}
 use Rattle.model.specs.declared.Phase.the-variants.{Dead}
 use Rattle.model.specs.declared.Answer.{Answer}
 use Rattle.model.specs.declared.Outcome.{Outcome}
+use Rattle.model.specs.Session.{noDigests, noLocks}
 use Rattle.model.specs.Lent.{Lent}
 use Rattle.model.specs.PowerUp.{Waking, wokenCopy, wokenSession, wokenAnswer}
 use Rattle.model.specs.Step.{Result}
@@ -24,10 +24,10 @@ abbrev pub lentOf : List ℕ → List ℕ → List ℕ → Lent
 lentOf cells copy constants = record { cells = cells; copy = copy; constants = constants }
 
 -- the model's result, for a waking that depends on what is lent
-abbrev pub wokenResult : (Lent → Waking) → Lent → Result
-wokenResult w l =
+abbrev pub wokenResult : Map → (Lent → Waking) → Lent → Result
+wokenResult map w l =
     record {
-      machine = machineOf (l .cells) (wokenCopy primitives map1 (w l) l) (l .constants) (wokenSession map1 (w l) l);
+      machine = machineOf (l .cells) (wokenCopy primitives map (w l) l) (l .constants) (wokenSession map (w l) l);
       answer = wokenAnswer (w l);
     }
 
@@ -35,6 +35,6 @@ wokenResult w l =
 abbrev pub deadOutcome : Reason → Answer → Outcome
 deadOutcome reason answer =
     record {
-      session = record { phase = Dead reason; sensed = 0 ∷ 0 ∷ 0 ∷ 0 ∷ 0 ∷ 0 ∷ []; locks = false ∷ false ∷ []; state = 0; count = 0 };
+      session = record { phase = Dead reason; sensed = noDigests; locks = noLocks; state = 0; count = 0 };
       answer = answer;
     }

@@ -5,28 +5,21 @@ use model::Answer;
 use model::Outcome;
 use model::Phase;
 use model::Reason;
+use model::ROOM;
 use model::Session;
-use partitions::LifeCyclePartition;
+use partitions::MapName;
 use partitions::Partition;
-use partitions::WORDS;
 ghost use mathlib.Core.Path.{_≡_};
-ghost use Prim.Native.Nat.{_+_, _*_, _%_, _≤_, _<_};
+ghost use Prim.Native.Nat.{_+_, _*_, _/_, _%_, _≤_, _<_};
 ghost use lib.ListN.{length};
 ghost use Rattle.basics.specs.Range.{listed};
-ghost use Rattle.partitions.specs.Map1.{map1};
+ghost use Rattle.partitions.specs.Map.{limit};
+ghost use Rattle.partitions.specs.Maps.{mapOf};
 ghost use Rattle.model.specs.declared.Command.the-variants.{PowerUp};
-ghost use Rattle.model.specs.Commands.{storedDigest, computedDigest};
-ghost use Rattle.model.specs.PowerUp.{digests, digestHolds, firstFailing, copyWord, lifeCycleIn, lifeCycleWaking, waking, wakes};
+ghost use Rattle.model.specs.Commands.{computedDigest};
+ghost use Rattle.model.specs.PowerUp.{sensedDigest, digests, digestHolds, firstFailing, copyWord, lifeCycleIn, lifeCycleWaking, waking, wakes};
 ghost use Rattle.chip.specs.Chip.{primitives, machineOf, resultOf, resultFor};
 ghost use Rattle.power_up.specs.Waking.{verdictIn, lentOf, wokenResult, deadOutcome};
-
-// Where the 24 counter words and the 20 state words of the life cycle start.
-const COUNTER: usize = LifeCyclePartition::START / 2;
-
-const STATE: usize = COUNTER + 24;
-
-// No partition is read-locked after a power-up, however it ends.
-const UNLOCKED: [bool; 2] = [false, false];
 
 // The value for a life cycle that is not valid.
 const INVALID: u64 = 0xFFFF;
@@ -65,13 +58,14 @@ fn digest_holds(cells: &[u16], constants: &[u16], partition: Partition) -> bool
 }
 
 // The digest checks of the partitions in order.
-fn first_failing(cells: &[u16], constants: &[u16]) -> Verdict
-    requires { ⌜ length (now cells) ≡ 448 ⌝ }
-    ensures { λ r. ⌜ r ≡ verdictIn (firstFailing primitives (now (constants .entry)) (now (cells .entry)) 0 map1) ⌝ }
+fn first_failing(cells: &[u16], constants: &[u16], map: MapName) -> Verdict
+    requires { ⌜ length (now cells) ≡ limit (mapOf map) / 2 ⌝ }
+    ensures { λ r. ⌜ r ≡ verdictIn (firstFailing primitives (now (constants .entry)) (now (cells .entry)) 0 (mapOf map)) ⌝ }
 {
+    let count = map.count();
     let mut number = 0;
-    while number < partitions::COUNT {
-        if !digest_holds(cells, constants, partitions::partition_of(number)) {
+    while number < count {
+        if !digest_holds(cells, constants, map.partition_of(number)) {
             return Verdict::Failed(number);
         }
         number += 1;
@@ -79,26 +73,38 @@ fn first_failing(cells: &[u16], constants: &[u16]) -> Verdict
     Verdict::Passed
 }
 
-// The stored digests of the partitions before LIFE_CYCLE, which has none.
-fn stored_digests(cells: &[u16]) -> [u64; 6]
-    ensures { λ r. ⌜ r ≡ digests (λ p. storedDigest p (now (cells .entry))) map1 ⌝ }
+// The stored digest of a partition that has one, else 0.
+fn sensed_digest(cells: &[u16], partition: Partition) -> u64
+    ensures { λ r. ⌜ r ≡ sensedDigest (now (cells .entry)) partition ⌝ }
 {
-    let mut digests = [0u64; 6];
+    let kind = partition.kind;
+    let rights = kind.rights();
+    if !rights.direct {
+        return 0;
+    }
+    chip::stored_digest(cells, partition)
+}
+
+// The stored digests by the partitions' numbers.
+fn stored_digests(cells: &[u16], map: MapName) -> [u64; 10]
+    ensures { λ r. ⌜ r ≡ digests (now (cells .entry)) (mapOf map) ⌝ }
+{
+    let mut digests = [0u64; 10];
     let mut number = 0;
-    while number < LifeCyclePartition::NUMBER {
-        digests[number] = chip::stored_digest(cells, partitions::partition_of(number));
+    while number < ROOM {
+        digests[number] = sensed_digest(cells, map.partition_of(number));
         number += 1;
     }
     digests
 }
 
 // What the copy holds for the four words from `at` on. They lie in one partition, all in its data or all in its digest.
-fn sensed_block(cells: &[u16], constants: &[u16], at: usize) -> [u16; 4]
-    requires { ⌜ (at % 4 ≡ 0) × (at < 448) × (length (now cells) ≡ 448) ⌝ }
-    ensures { λ r. ⌜ r ≡ listed (copyWord primitives map1 (now (constants .entry)) (now (cells .entry))) at 4 ⌝ }
+fn sensed_block(cells: &[u16], constants: &[u16], map: MapName, at: usize) -> [u16; 4]
+    requires { ⌜ (at % 4 ≡ 0) × (at < limit (mapOf map) / 2) ⌝ }
+    ensures { λ r. ⌜ r ≡ listed (copyWord primitives (mapOf map) (now (constants .entry)) (now (cells .entry))) at 4 ⌝ }
 {
     let address = 2 * at;
-    let partition = partitions::partition_of(partitions::number_at(address));
+    let partition = map.partition_of(map.number_at(address));
     let kind = partition.kind;
     let rights = kind.rights();
     if rights.lockable {
@@ -112,13 +118,13 @@ fn sensed_block(cells: &[u16], constants: &[u16], at: usize) -> [u16; 4]
 }
 
 // Latches the copy, block by block.
-fn latch(cells: &[u16], constants: &[u16], copy: &mut [u16])
-    requires { ⌜ (length (now cells) ≡ 448) × (length (now copy) ≡ 448) ⌝ }
-    ensures { λ _. ⌜ now (copy .exit) ≡ listed (copyWord primitives map1 (now (constants .entry)) (now (cells .entry))) 0 448 ⌝ }
+fn latch(cells: &[u16], constants: &[u16], map: MapName, copy: &mut [u16])
+    requires { ⌜ (length (now cells) ≡ limit (mapOf map) / 2) × (length (now copy) ≡ limit (mapOf map) / 2) ⌝ }
+    ensures { λ _. ⌜ now (copy .exit) ≡ listed (copyWord primitives (mapOf map) (now (constants .entry)) (now (cells .entry))) 0 (limit (mapOf map) / 2) ⌝ }
 {
     let mut at = 0;
-    while at < WORDS {
-        let block = sensed_block(cells, constants, at);
+    while at < copy.len() {
+        let block = sensed_block(cells, constants, map, at);
         copy[at] = block[0];
         copy[at + 1] = block[1];
         copy[at + 2] = block[2];
@@ -146,8 +152,8 @@ fn dead(copy: &mut [u16], reason: Reason, answer: Answer) -> Outcome
     clear(copy);
     let session = Session {
         phase: Phase::Dead(reason),
-        sensed: [0, 0, 0, 0, 0, 0],
-        locks: UNLOCKED,
+        sensed: [0; 10],
+        locks: [false; 10],
         state: 0,
         count: 0,
     };
@@ -162,16 +168,23 @@ fn value_of(state: u8, count: u8) -> u64
 }
 
 // A power-up that succeeds: copy and session are sensed from the cells.
-fn ready(cells: &[u16], copy: &mut [u16], constants: &[u16], state: u8, count: u8) -> Outcome
-    requires { ⌜ (length (now cells) ≡ 448) × (length (now copy) ≡ 448) ⌝ }
-    ensures { λ r. ⌜ resultOf (now (cells .entry)) (now (copy .exit)) (now (constants .entry)) r ≡ wokenResult (λ l. wakes state count) (lentOf (now (cells .entry)) (now (copy .entry)) (now (constants .entry))) ⌝ }
+fn ready(
+    cells: &[u16],
+    copy: &mut [u16],
+    constants: &[u16],
+    map: MapName,
+    state: u8,
+    count: u8,
+) -> Outcome
+    requires { ⌜ (length (now cells) ≡ limit (mapOf map) / 2) × (length (now copy) ≡ limit (mapOf map) / 2) ⌝ }
+    ensures { λ r. ⌜ resultOf (now (cells .entry)) (now (copy .exit)) (now (constants .entry)) r ≡ wokenResult (mapOf map) (λ l. wakes state count) (lentOf (now (cells .entry)) (now (copy .entry)) (now (constants .entry))) ⌝ }
 {
-    latch(cells, constants, copy);
-    let sensed = stored_digests(cells);
+    latch(cells, constants, map, copy);
+    let sensed = stored_digests(cells, map);
     let session = Session {
         phase: Phase::Ready,
         sensed,
-        locks: UNLOCKED,
+        locks: [false; 10],
         state,
         count,
     };
@@ -180,11 +193,14 @@ fn ready(cells: &[u16], copy: &mut [u16], constants: &[u16], state: u8, count: u
 }
 
 // After the digest checks: the life cycle decides.
-fn live(cells: &[u16], copy: &mut [u16], constants: &[u16]) -> Outcome
-    requires { ⌜ (length (now cells) ≡ 448) × (length (now copy) ≡ 448) ⌝ }
-    ensures { λ r. ⌜ resultOf (now (cells .entry)) (now (copy .exit)) (now (constants .entry)) r ≡ wokenResult (λ l. lifeCycleWaking (lifeCycleIn map1 l)) (lentOf (now (cells .entry)) (now (copy .entry)) (now (constants .entry))) ⌝ }
+fn live(cells: &[u16], copy: &mut [u16], constants: &[u16], map: MapName) -> Outcome
+    requires { ⌜ (length (now cells) ≡ limit (mapOf map) / 2) × (length (now copy) ≡ limit (mapOf map) / 2) ⌝ }
+    ensures { λ r. ⌜ resultOf (now (cells .entry)) (now (copy .exit)) (now (constants .entry)) r ≡ wokenResult (mapOf map) (λ l. lifeCycleWaking (lifeCycleIn (mapOf map) l)) (lentOf (now (cells .entry)) (now (copy .entry)) (now (constants .entry))) ⌝ }
 {
-    match life_cycle::decode(constants, &cells[COUNTER..STATE], &cells[STATE..WORDS]) {
+    let counter = chip::counter_at(map);
+    let state = chip::state_at(map);
+    let end = cells.len();
+    match life_cycle::decode(constants, &cells[counter..state], &cells[state..end]) {
         LifeCycle::Invalid => dead(
             copy,
             Reason::LifeCycleFailed,
@@ -199,29 +215,35 @@ fn live(cells: &[u16], copy: &mut [u16], constants: &[u16]) -> Outcome
                     Answer::LifeCycleFailed(value),
                 )
             } else {
-                ready(cells, copy, constants, state, count)
+                ready(cells, copy, constants, map, state, count)
             }
         }
     }
 }
 
 // After the judgement: the digest checks come first.
-fn woken(cells: &[u16], copy: &mut [u16], constants: &[u16]) -> Outcome
-    requires { ⌜ (length (now cells) ≡ 448) × (length (now copy) ≡ 448) ⌝ }
-    ensures { λ r. ⌜ resultOf (now (cells .entry)) (now (copy .exit)) (now (constants .entry)) r ≡ wokenResult (waking primitives map1) (lentOf (now (cells .entry)) (now (copy .entry)) (now (constants .entry))) ⌝ }
+fn woken(cells: &[u16], copy: &mut [u16], constants: &[u16], map: MapName) -> Outcome
+    requires { ⌜ (length (now cells) ≡ limit (mapOf map) / 2) × (length (now copy) ≡ limit (mapOf map) / 2) ⌝ }
+    ensures { λ r. ⌜ resultOf (now (cells .entry)) (now (copy .exit)) (now (constants .entry)) r ≡ wokenResult (mapOf map) (waking primitives (mapOf map)) (lentOf (now (cells .entry)) (now (copy .entry)) (now (constants .entry))) ⌝ }
 {
-    match first_failing(cells, constants) {
+    match first_failing(cells, constants, map) {
         Verdict::Failed(number) => dead(copy, Reason::DigestFailed, Answer::DigestFailed(number)),
-        Verdict::Passed => live(cells, copy, constants),
+        Verdict::Passed => live(cells, copy, constants, map),
     }
 }
 
 // The power-up command.
-pub fn power_up(cells: &[u16], copy: &mut [u16], constants: &[u16], session: Session) -> Outcome
-    ensures { λ r. ⌜ resultOf (now (cells .entry)) (now (copy .exit)) (now (constants .entry)) r ≡ resultFor PowerUp (machineOf (now (cells .entry)) (now (copy .entry)) (now (constants .entry)) session) ⌝ }
+pub fn power_up(
+    cells: &[u16],
+    copy: &mut [u16],
+    constants: &[u16],
+    map: MapName,
+    session: Session,
+) -> Outcome
+    ensures { λ r. ⌜ resultOf (now (cells .entry)) (now (copy .exit)) (now (constants .entry)) r ≡ resultFor (mapOf map) PowerUp (machineOf (now (cells .entry)) (now (copy .entry)) (now (constants .entry)) session) ⌝ }
 {
-    match chip::judge(cells.len(), copy.len(), constants) {
+    match chip::judge(cells.len(), copy.len(), constants, map) {
         Judged::Refused(answer) => Outcome { session, answer },
-        Judged::Accepted => woken(cells, copy, constants),
+        Judged::Accepted => woken(cells, copy, constants, map),
     }
 }

@@ -1,7 +1,13 @@
 -- What the bench program prints for a script, an image and constants.
-use Prim.Native.Nat.{ℕ, zero, suc, _+_}
+use Prim.Native.Nat.{ℕ, zero, suc, _+_, _/_}
 use mathlib.Core.List.{List, [], _∷_, _++_}
+use lib.Dec.{eqb}
 use lib.ListN.{length, replicate}
+use Rattle.basics.specs.Choice.{if_then_else_}
+use Rattle.partitions.specs.declared.MapName.{MapName}
+use Rattle.partitions.specs.declared.MapName.the-variants.{Map1, Map2}
+use Rattle.partitions.specs.Map.{Map, limit}
+use Rattle.partitions.specs.Maps.{mapOf}
 use Rattle.model.specs.Answers.{codeOf, valueOf}
 use Rattle.model.specs.Session.{freshSession}
 use Rattle.model.specs.Lent.{Machine}
@@ -27,24 +33,32 @@ refusedKind script TooLong place = 0
 
 -- "One line a record: kind, code, value .. The reader's own 0x11 (unknown kind) or 0x13 stops it: the line's value is the place of the record's
 -- kind byte". At most n lines from a place on, for a machine as the last record left it.
-unfoldable pub linesFrom : ℕ → List ℕ → ℕ → Machine → List Line
-linesFrom zero script place m = []
-linesFrom (suc n) script place m =
+unfoldable pub linesFrom : Map → ℕ → List ℕ → ℕ → Machine → List Line
+linesFrom map zero script place m = []
+linesFrom map (suc n) script place m =
     elim (nextAt script place) [
       | Record command next ↦
-          let r = resultFor command m in
-          record { kind = kindOf command; code = codeOf (r .answer); value = valueOf (r .answer) } ∷ linesFrom n script next (r .machine)
+          let r = resultFor map command m in
+          record { kind = kindOf command; code = codeOf (r .answer); value = valueOf (r .answer) } ∷ linesFrom map n script next (r .machine)
       | End ↦ []
       | Refused refusal at ↦ record { kind = refusedKind script refusal at; code = refusalCode refusal; value = at } ∷ []
     ]
 
--- "The program runs standard input, from a fresh record, over fixed-name image and constants files". No file gives the sensed copy: it starts as 448 zeros.
+-- "the bench takes Map 2 for an image of 1,480 bytes, else Map 1" (request Six)
+unfoldable pub mapFor : List ℕ → MapName
+mapFor image = if eqb (length image) 1480 then Map2 else Map1
+
+abbrev pub mapUsed : List ℕ → Map
+mapUsed image = mapOf (mapFor image)
+
+-- "The program runs standard input, from a fresh record, over fixed-name image and constants files". No file gives the sensed copy: it starts as zeros, as
+-- many as the map has words.
 abbrev pub chipOf : List ℕ → List ℕ → Machine
-chipOf image constants = machineOf (fileWords image) (replicate 448 0) (fileWords constants) freshSession
+chipOf image constants = machineOf (fileWords image) (replicate (limit (mapUsed image) / 2) 0) (fileWords constants) freshSession
 
 -- a record has a byte at least, so a script has no more records than bytes
 unfoldable pub linesOf : List ℕ → List ℕ → List ℕ → List Line
-linesOf script image constants = linesFrom (length script + 1) script 0 (chipOf image constants)
+linesOf script image constants = linesFrom (mapUsed image) (length script + 1) script 0 (chipOf image constants)
 
 -- the bytes of the lines
 unfoldable pub printed : List Line → List ℕ

@@ -2,6 +2,7 @@
 use Prim.Native.Nat.{ℕ, zero, suc, _+_}
 use mathlib.Core.List.{List, _++_}
 use lib.ListN.{replicate}
+use Rattle.partitions.specs.Map.{Map}
 use Rattle.model.specs.Answers.{codeOf, valueOf}
 use Rattle.model.specs.declared.Session.{Session}
 use Rattle.model.specs.Lent.{Machine}
@@ -24,16 +25,16 @@ pub record Turn : Type 0 where
   pub line : List ℕ
 
 -- by what stands at the place: a record executed, the end, or a refusal's line
-unfoldable pub turnBy : Reading → List ℕ → ℕ → Machine → Turn
-turnBy (Record command next) script place m =
-    let r = resultFor command m in
+unfoldable pub turnBy : Map → Reading → List ℕ → ℕ → Machine → Turn
+turnBy map (Record command next) script place m =
+    let r = resultFor map command m in
     record { machine = r .machine; course = Goes; place = next; line = lineOf (kindOf command) (codeOf (r .answer)) (valueOf (r .answer)) }
-turnBy End script place m = record { machine = m; course = Ends; place = place; line = replicate 23 0 }
-turnBy (Refused refusal at) script place m =
+turnBy map End script place m = record { machine = m; course = Ends; place = place; line = replicate 23 0 }
+turnBy map (Refused refusal at) script place m =
     record { machine = m; course = Stops; place = place; line = lineOf (refusedKind script refusal at) (refusalCode refusal) at }
 
-unfoldable pub turnOf : List ℕ → ℕ → Machine → Turn
-turnOf script place m = turnBy (nextAt script place) script place m
+unfoldable pub turnOf : Map → List ℕ → ℕ → Machine → Turn
+turnOf map script place m = turnBy map (nextAt script place) script place m
 
 -- what is lent after a turn, with what it gave back
 abbrev pub turnWith : List ℕ → List ℕ → List ℕ → Turned → Turn
@@ -64,8 +65,8 @@ afterTurn Stops line count rest = line ++ endLine (count + 1)
 afterTurn Ends line count rest = endLine count
 
 -- at most n turns
-unfoldable pub turnsFrom : ℕ → List ℕ → ℕ → Machine → ℕ → List ℕ
-turnsFrom zero script place m count = endLine count
-turnsFrom (suc n) script place m count =
-    let t = turnOf script place m in
-    afterTurn (t .course) (t .line) count (turnsFrom n script (t .place) (t .machine) (count + 1))
+unfoldable pub turnsFrom : Map → ℕ → List ℕ → ℕ → Machine → ℕ → List ℕ
+turnsFrom map zero script place m count = endLine count
+turnsFrom map (suc n) script place m count =
+    let t = turnOf map script place m in
+    afterTurn (t .course) (t .line) count (turnsFrom map n script (t .place) (t .machine) (count + 1))

@@ -4,17 +4,16 @@ use mathlib.Core.Path.{_≡_}
 use mathlib.Core.Bool.{false}
 use mathlib.Core.List.{List, [], _∷_, _++_}
 use lib.ListN.{length}
-use Rattle.partitions.specs.Map1.{map1}
 use Rattle.model.specs.Lent.{rightLengths}
 use Rattle.script.specs.declared.Refusal.{Refusal}
 use Rattle.script.specs.Records.{refusalCode}
 use Rattle.script.specs.Lines.{lineOf, endLine}
 use Rattle.transcript.specs.Files.{fileWords}
-use Rattle.transcript.specs.Transcript.{Line, chipOf, linesOf, transcript}
+use Rattle.transcript.specs.Transcript.{Line, mapUsed, chipOf, linesOf, transcript}
 
 -- these files lend something of a wrong length
 abbrev pub Wrong : List ℕ → List ℕ → Type 0
-Wrong image constants = rightLengths map1 (chipOf image constants .lent) ≡ false
+Wrong image constants = rightLengths (mapUsed image) (chipOf image constants .lent) ≡ false
 
 -- a line that a wrong length gives to a record, or the reader's own refusal
 pub data Refusing : Line → Type 0 where
@@ -27,7 +26,7 @@ pub data Each (P : Line → Type 0) : List Line → Type 0 where
 
 pub record WrongLengths : Type 0 where
   -- a file with any other number of words is of a wrong length
-  pub images : (image constants : List ℕ) → (length (fileWords image) ≡ 448 → ⊥) → Wrong image constants
+  pub images : (image constants : List ℕ) → (length (fileWords image) ≡ 448 → ⊥) → (length (fileWords image) ≡ 740 → ⊥) → Wrong image constants
   pub constants : (image constants : List ℕ) → (length (fileWords constants) ≡ 132 → ⊥) → Wrong image constants
   -- "a wrong length gives 0x10 on each line"
   pub lines : (script image constants : List ℕ) → Wrong image constants → Each Refusing (linesOf script image constants)

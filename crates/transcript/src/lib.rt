@@ -1,16 +1,19 @@
 // A rehearsal in turns: each reads the next record of a script, executes it and makes its line. And the files of words.
 
 use model::Session;
+use partitions::map2;
+use partitions::MapName;
 use script::Reading;
 use script::Refusal;
 ghost use mathlib.Core.Path.{_≡_};
 ghost use mathlib.Core.List.{List, _++_};
 ghost use Prim.Native.Nat.{ℕ, _+_, _*_};
 ghost use lib.ListN.{length, drop};
+ghost use Rattle.partitions.specs.Maps.{mapOf};
 ghost use Rattle.chip.specs.Chip.{machineOf};
 ghost use Rattle.script.specs.Records.{byteAt};
 ghost use Rattle.transcript.specs.Files.{lentWords};
-ghost use Rattle.transcript.specs.Transcript.{refusedKind, linesOf};
+ghost use Rattle.transcript.specs.Transcript.{refusedKind, mapFor, linesOf};
 ghost use Rattle.transcript.specs.Turns.{endedAt, refusedAt, stoppedOf, turnOf, turnWith};
 
 // How a rehearsal goes on: with a line and more to come, with a last line, or with the script's end and no line.
@@ -89,15 +92,16 @@ pub fn turn(
     cells: &mut [u16],
     copy: &mut [u16],
     constants: &[u16],
+    map: MapName,
     session: Session,
 ) -> Turned
-    ensures { λ r. ⌜ turnWith (now (cells .exit)) (now (copy .exit)) (now (constants .entry)) r ≡ turnOf (now (script .entry)) place (machineOf (now (cells .entry)) (now (copy .entry)) (now (constants .entry)) session) ⌝ }
+    ensures { λ r. ⌜ turnWith (now (cells .exit)) (now (copy .exit)) (now (constants .entry)) r ≡ turnOf (mapOf map) (now (script .entry)) place (machineOf (now (cells .entry)) (now (copy .entry)) (now (constants .entry)) session) ⌝ }
 {
     let reading = script::next_at(script, place);
     let Reading::Record(command, next) = reading else {
         return stopped(script, place, reading, session);
     };
-    let outcome = controller::execute(cells, copy, constants, session, command);
+    let outcome = controller::execute(cells, copy, constants, map, session, command);
     let answer = outcome.answer;
     let after = outcome.session;
     let kind = script::kind_of(command);
@@ -110,6 +114,16 @@ pub fn turn(
         place: next,
         line,
     }
+}
+
+// The map that an image is taken for, by its length in bytes.
+pub fn map_for(image: &[u8]) -> MapName
+    ensures { λ r. ⌜ r ≡ mapFor (now (image .entry)) ⌝ }
+{
+    if image.len() == map2::LifeCycle::END {
+        return MapName::Map2;
+    }
+    MapName::Map1
 }
 
 // How many lines a script gives, whatever the image and the constants are: what its end line tells.

@@ -8,8 +8,7 @@ use native.Mathlib.Omega.{arith}
 use lib.Dec.{eqb}
 use borrow.Author.Tests.{eqb-true, eq-eqb, ne-eqb}
 use Rattle.basics.proofs.Choice.{by-cases, true-not-false, and-left, and-right, and-both, if-true, if-false}
-use Rattle.partitions.specs.Map.{numberOfKind}
-use Rattle.partitions.specs.Map1.{map1}
+use Rattle.partitions.specs.Map.{Map, numberOfKind}
 use Rattle.life_cycle.specs.declared.Token.{Token}
 use Rattle.life_cycle.specs.declared.Token.the-variants.{Nothing, RawUnlock, TestUnlock, TestExit, Rma}
 use Rattle.life_cycle.specs.declared.Entry.{Entry}
@@ -49,21 +48,21 @@ halves-differ a b c d l m e =
 
 -- ---- a stored token
 
-module _ (s : Session) (copy : List ℕ) (token : Token) (given : ℕ) where
-  pub not-locked : sensedAt s (numberOfKind map1 (tokenKind token)) ≡ 0 → lockedPermit s copy token given ≡ Refused TokenNotLocked
+module _ (map : Map) (s : Session) (copy : List ℕ) (token : Token) (given : ℕ) where
+  pub not-locked : sensedAt s (numberOfKind map (tokenKind token)) ≡ 0 → lockedPermit map s copy token given ≡ Refused TokenNotLocked
   unfolding lockedPermit sensedLocked
   not-locked e = if-true _ _ (ap (λ (b : Bool). not (not b)) (eq-eqb _ 0 e))
 
-  pub locked : (sensedAt s (numberOfKind map1 (tokenKind token)) ≡ 0 → ⊥)
-      → lockedPermit s copy token given ≡ comparedAs (hashesTo primitives given (storedToken map1 token copy))
+  pub locked : (sensedAt s (numberOfKind map (tokenKind token)) ≡ 0 → ⊥)
+      → lockedPermit map s copy token given ≡ comparedAs (hashesTo primitives given (storedToken map token copy))
   unfolding lockedPermit sensedLocked
   locked h = if-false _ _ (ap (λ (b : Bool). not (not b)) (ne-eqb _ 0 h))
 
 -- the token that the table needs decides
-pub by-token : (s : Session) (copy k : List ℕ) (given : ℕ) (entry : Entry) (needed token : Token) (p : Permit) → entry ≡ Allowed needed → needed ≡ token
-    → p ≡ tokenPermit s copy k token given → p ≡ permitOf s copy k entry given
+pub by-token : (map : Map) (s : Session) (copy k : List ℕ) (given : ℕ) (entry : Entry) (needed token : Token) (p : Permit) → entry ≡ Allowed needed → needed ≡ token
+    → p ≡ tokenPermit map s copy k token given → p ≡ permitOf map s copy k entry given
 unfolding permitOf
-by-token s copy k given entry needed token p e f g = rw (e, f) g
+by-token map s copy k given entry needed token p e f g = rw (e, f) g
 
 -- ---- what a permit makes of a move
 
@@ -82,23 +81,23 @@ comparing n go test =
     by-cases (test (n .lent .copy)) (λ t. compare-same n test go _ t ∙ ap (permitting n go) (sym (if-true Granted (Refused TokenDiffers) t)))
     (λ t. compare-other n test go _ t ∙ ap (permitting n go) (sym (if-false Granted (Refused TokenDiffers) t)))
 
-module _ (m n : Machine) (target given : ℕ) where
+module _ (map : Map) (m n : Machine) (target given : ℕ) where
   abbrev move : Act
-  move = moveAct primitives map1 m target
+  move = moveAct primitives map m target
 
   locking : (token : Token)
-      → comesTo (lockedTokenAct primitives map1 m token target given) n ≡ permitting n move (lockedPermit (m .session) (n .lent .copy) token given)
+      → comesTo (lockedTokenAct primitives map m token target given) n ≡ permitting n move (lockedPermit map (m .session) (n .lent .copy) token given)
   unfolding lockedTokenAct lockedPermit
   locking token =
       let to : Act → Result = λ a. comesTo a n in
       let unlocked = Refused TokenNotLocked in
-      by-cases (sensedLocked (m .session) (numberOfKind map1 (tokenKind token)))
+      by-cases (sensedLocked (m .session) (numberOfKind map (tokenKind token)))
       (λ t. ap to (if-false _ _ (ap not t)) ∙ comparing n move _ ∙ ap (permitting n move) (sym (if-false unlocked _ (ap not t))))
       (λ t. ap to (if-true _ _ (ap not t)) ∙ ap (permitting n move) (sym (if-true unlocked _ (ap not t))))
 
   asking : (token : Token)
-      → comesTo (tokenAct primitives map1 m token target given) n
-      ≡ permitting n move (tokenPermit (m .session) (n .lent .copy) (m .lent .constants) token given)
+      → comesTo (tokenAct primitives map m token target given) n
+      ≡ permitting n move (tokenPermit map (m .session) (n .lent .copy) (m .lent .constants) token given)
   unfolding tokenAct tokenPermit
   asking Nothing = refl
   asking RawUnlock = comparing n move _
@@ -107,7 +106,7 @@ module _ (m n : Machine) (target given : ℕ) where
   asking Rma = locking Rma
 
   pub entering : (e : Entry)
-      → comesTo (entryAct primitives map1 m e target given) n ≡ permitting n move (permitOf (m .session) (n .lent .copy) (m .lent .constants) e given)
+      → comesTo (entryAct primitives map m e target given) n ≡ permitting n move (permitOf map (m .session) (n .lent .copy) (m .lent .constants) e given)
   unfolding entryAct permitOf
   entering Forbidden = refl
   entering (Allowed token) = asking token

@@ -5,8 +5,7 @@ use mathlib.Core.List.{List}
 use Rattle.basics.specs.Choice.{if_then_else_}
 use Rattle.words.specs.declared.Programmed.{Programmed}
 use Rattle.words.specs.declared.Programmed.the-variants as programmed
-use Rattle.partitions.specs.Map.{numberOfKind}
-use Rattle.partitions.specs.Map1.{map1}
+use Rattle.partitions.specs.Map.{Map, numberOfKind}
 use Rattle.life_cycle.specs.declared.Token.{Token}
 use Rattle.life_cycle.specs.declared.Token.the-variants.{Nothing, RawUnlock, TestUnlock, TestExit, Rma}
 use Rattle.life_cycle.specs.declared.Entry.{Entry}
@@ -29,21 +28,21 @@ unfoldable pub comparedAs : Bool → Permit
 comparedAs same = if same then Granted else Refused TokenDiffers
 
 -- a token that is stored needs its partition sensed locked
-unfoldable pub lockedPermit : Session → List ℕ → Token → ℕ → Permit
-lockedPermit s copy token given =
-    if not (sensedLocked s (numberOfKind map1 (tokenKind token))) then Refused TokenNotLocked
-    else comparedAs (hashesTo primitives given (storedToken map1 token copy))
+unfoldable pub lockedPermit : Map → Session → List ℕ → Token → ℕ → Permit
+lockedPermit map s copy token given =
+    if not (sensedLocked s (numberOfKind map (tokenKind token))) then Refused TokenNotLocked
+    else comparedAs (hashesTo primitives given (storedToken map token copy))
 
-unfoldable pub tokenPermit : Session → List ℕ → List ℕ → Token → ℕ → Permit
-tokenPermit s copy constants Nothing given = Granted
-tokenPermit s copy constants RawUnlock given = comparedAs (hashesTo primitives given (rawUnlockHash constants))
-tokenPermit s copy constants TestUnlock given = lockedPermit s copy TestUnlock given
-tokenPermit s copy constants TestExit given = lockedPermit s copy TestExit given
-tokenPermit s copy constants Rma given = lockedPermit s copy Rma given
+unfoldable pub tokenPermit : Map → Session → List ℕ → List ℕ → Token → ℕ → Permit
+tokenPermit map s copy constants Nothing given = Granted
+tokenPermit map s copy constants RawUnlock given = comparedAs (hashesTo primitives given (rawUnlockHash constants))
+tokenPermit map s copy constants TestUnlock given = lockedPermit map s copy TestUnlock given
+tokenPermit map s copy constants TestExit given = lockedPermit map s copy TestExit given
+tokenPermit map s copy constants Rma given = lockedPermit map s copy Rma given
 
-unfoldable pub permitOf : Session → List ℕ → List ℕ → Entry → ℕ → Permit
-permitOf s copy constants Forbidden given = Refused NotInTable
-permitOf s copy constants (Allowed token) given = tokenPermit s copy constants token given
+unfoldable pub permitOf : Map → Session → List ℕ → List ℕ → Entry → ℕ → Permit
+permitOf map s copy constants Forbidden given = Refused NotInTable
+permitOf map s copy constants (Allowed token) given = tokenPermit map s copy constants token given
 
 -- "Every later answer leaves the phase Inert (Dead 4 after a 4)."
 abbrev pub inert : Session → Answer → Outcome

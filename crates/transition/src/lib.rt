@@ -10,16 +10,15 @@ use model::Outcome;
 use model::Phase;
 use model::Reason;
 use model::Session;
-use partitions::LifeCyclePartition;
-use partitions::Secret0Partition;
-use partitions::Secret2Partition;
+use partitions::Kind;
+use partitions::MapName;
 use words::Programmed;
 use words::Rule;
 ghost use mathlib.Core.Path.{_≡_};
-ghost use Prim.Native.Nat.{suc, _+_, _*_, _/_, _^_, _<_};
+ghost use Prim.Native.Nat.{suc, _+_, _*_, _/_, _^_, _≤_, _<_};
 ghost use Rattle.words.specs.Programming.{programAnswer, programCells};
 ghost use Rattle.partitions.specs.Map.{partition, numberOfKind};
-ghost use Rattle.partitions.specs.Map1.{map1};
+ghost use Rattle.partitions.specs.Maps.{mapOf};
 ghost use Rattle.life_cycle.specs.Words.{counterWords, stateWords};
 ghost use Rattle.life_cycle.specs.Transitions.{transition};
 ghost use Rattle.model.specs.declared.Command.{Command};
@@ -28,11 +27,7 @@ ghost use Rattle.model.specs.Commands.{lifeCycleRule, tokenKind, tokenOffset, h
 ghost use Rattle.chip.specs.Chip.{primitives, machineOf, resultOf, resultFor};
 ghost use Rattle.transition.specs.Permit.{comparedAs, lockedPermit, permitOf, inert, dead, movedAs};
 
-// Where the counter words and the state words start, and the hash of the RAW_UNLOCK token among the constants.
-const COUNTER: usize = LifeCyclePartition::START / 2;
-
-const STATE: usize = COUNTER + 24;
-
+// Where the hash of the RAW_UNLOCK token stands among the constants.
 const RAW_UNLOCK_HASH: usize = 124;
 
 // Table and token permit the move, or refuse it with an answer.
@@ -77,51 +72,75 @@ fn dead(session: Session, cell: usize) -> Outcome
 }
 
 // Programs the counter words of one stroke more.
-fn spend(cells: &mut [u16], constants: &[u16], count: u8) -> Programmed
+fn spend(cells: &mut [u16], constants: &[u16], map: MapName, count: u8) -> Programmed
     requires { ⌜ count < 24 ⌝ }
-    ensures answer { λ r. ⌜ r ≡ programAnswer lifeCycleRule (now (cells .entry)) (counterAt map1) (counterWords (now (constants .entry)) (suc count)) ⌝ }
-    ensures words { λ _. ⌜ now (cells .exit) ≡ programCells lifeCycleRule (now (cells .entry)) (counterAt map1) (counterWords (now (constants .entry)) (suc count)) ⌝ }
+    ensures answer { λ r. ⌜ r ≡ programAnswer lifeCycleRule (now (cells .entry)) (counterAt (mapOf map)) (counterWords (now (constants .entry)) (suc count)) ⌝ }
+    ensures words { λ _. ⌜ now (cells .exit) ≡ programCells lifeCycleRule (now (cells .entry)) (counterAt (mapOf map)) (counterWords (now (constants .entry)) (suc count)) ⌝ }
 {
+    let at = chip::counter_at(map);
     let words = life_cycle::counter_words(constants, count + 1);
-    words::program(Rule::KeepBits, cells, COUNTER, &words[..])
+    words::program(Rule::KeepBits, cells, at, &words[..])
 }
 
 // Programs the state words of the target.
-fn move_to(cells: &mut [u16], constants: &[u16], session: Session, target: u8) -> Outcome
-    ensures outcome { λ r. ⌜ r ≡ movedAs session (programAnswer lifeCycleRule (now (cells .entry)) (stateAt map1) (stateWords (now (constants .entry)) target)) ⌝ }
-    ensures words { λ _. ⌜ now (cells .exit) ≡ programCells lifeCycleRule (now (cells .entry)) (stateAt map1) (stateWords (now (constants .entry)) target) ⌝ }
+fn move_to(
+    cells: &mut [u16],
+    constants: &[u16],
+    map: MapName,
+    session: Session,
+    target: u8,
+) -> Outcome
+    ensures outcome { λ r. ⌜ r ≡ movedAs session (programAnswer lifeCycleRule (now (cells .entry)) (stateAt (mapOf map)) (stateWords (now (constants .entry)) target)) ⌝ }
+    ensures words { λ _. ⌜ now (cells .exit) ≡ programCells lifeCycleRule (now (cells .entry)) (stateAt (mapOf map)) (stateWords (now (constants .entry)) target) ⌝ }
 {
+    let at = chip::state_at(map);
     let words = life_cycle::state_words(constants, target);
-    match words::program(Rule::KeepBits, cells, STATE, &words[..]) {
+    match words::program(Rule::KeepBits, cells, at, &words[..]) {
         Programmed::Done => inert(session, Answer::Done(0)),
         Programmed::Refused(cell) => dead(session, cell),
     }
 }
 
-// The partition whose sensed digest locks a token.
-fn lock_of(token: Token) -> usize
-    ensures { λ r. ⌜ r ≡ numberOfKind map1 (tokenKind token) ⌝ }
+// The kind of the partition that stores a token.
+fn kind_of(token: Token) -> Kind
+    ensures { λ r. ⌜ r ≡ tokenKind token ⌝ }
 {
     match token {
-        Token::Nothing => Secret0Partition::NUMBER,
-        Token::RawUnlock => Secret0Partition::NUMBER,
-        Token::TestUnlock => Secret0Partition::NUMBER,
-        Token::TestExit => Secret0Partition::NUMBER,
-        Token::Rma => Secret2Partition::NUMBER,
+        Token::Nothing => Kind::Secret0,
+        Token::RawUnlock => Kind::Secret0,
+        Token::TestUnlock => Kind::Secret0,
+        Token::TestExit => Kind::Secret0,
+        Token::Rma => Kind::Secret2,
     }
 }
 
-// The first of the eight words of a stored token.
-fn place_of(token: Token) -> usize
-    ensures { λ r. ⌜ r ≡ partition map1 (numberOfKind map1 (tokenKind token)) .start / 2 + tokenOffset token ⌝ }
+// Its first word, counted from the start of the partition.
+fn offset_of(token: Token) -> usize
+    ensures { λ r. ⌜ r ≡ tokenOffset token ⌝ }
+    ensures small { λ r. ⌜ r ≤ 8 ⌝ }
 {
     match token {
-        Token::Nothing => Secret0Partition::START / 2,
-        Token::RawUnlock => Secret0Partition::START / 2,
-        Token::TestUnlock => Secret0Partition::START / 2,
-        Token::TestExit => Secret0Partition::START / 2 + 8,
-        Token::Rma => Secret2Partition::START / 2,
+        Token::Nothing => 0,
+        Token::RawUnlock => 0,
+        Token::TestUnlock => 0,
+        Token::TestExit => 8,
+        Token::Rma => 0,
     }
+}
+
+// The partition whose sensed digest locks a token.
+fn lock_of(map: MapName, token: Token) -> usize
+    ensures { λ r. ⌜ r ≡ numberOfKind (mapOf map) (tokenKind token) ⌝ }
+{
+    map.number_of_kind(kind_of(token))
+}
+
+// The first of the eight words of a stored token.
+fn place_of(map: MapName, token: Token) -> usize
+    ensures { λ r. ⌜ r ≡ partition (mapOf map) (numberOfKind (mapOf map) (tokenKind token)) .start / 2 + tokenOffset token ⌝ }
+{
+    let partition = map.partition_of(lock_of(map, token));
+    partition.start / 2 + offset_of(token)
 }
 
 // The test behind 0x23: the token given is hashed, and its hash compared with the stored one.
@@ -136,34 +155,42 @@ fn compared(stored: Halves, high: u64, low: u64) -> Permit
 }
 
 // The hash of a token that is stored is that of the sensed copy, and its partition has to be sensed locked.
-fn locked_permit(copy: &[u16], session: Session, token: Token, high: u64, low: u64) -> Permit
-    ensures { λ r. ⌜ r ≡ lockedPermit session (now (copy .entry)) token (high * 2 ^ 64 + low) ⌝ }
+fn locked_permit(
+    copy: &[u16],
+    map: MapName,
+    session: Session,
+    token: Token,
+    high: u64,
+    low: u64,
+) -> Permit
+    ensures { λ r. ⌜ r ≡ lockedPermit (mapOf map) session (now (copy .entry)) token (high * 2 ^ 64 + low) ⌝ }
 {
-    if session.sensed_at(lock_of(token)) == 0 {
+    if session.sensed_at(lock_of(map, token)) == 0 {
         return Permit::Refused(Answer::TokenNotLocked);
     }
-    compared(chip::eight_words(copy, place_of(token)), high, low)
+    compared(chip::eight_words(copy, place_of(map, token)), high, low)
 }
 
 // What the table's entry needs. The hash of the RAW_UNLOCK token is a constant and needs no lock.
 fn permitted(
     copy: &[u16],
     constants: &[u16],
+    map: MapName,
     session: Session,
     target: u8,
     high: u64,
     low: u64,
 ) -> Permit
-    ensures { λ r. ⌜ r ≡ permitOf session (now (copy .entry)) (now (constants .entry)) (transition (session .state) target) (high * 2 ^ 64 + low) ⌝ }
+    ensures { λ r. ⌜ r ≡ permitOf (mapOf map) session (now (copy .entry)) (now (constants .entry)) (transition (session .state) target) (high * 2 ^ 64 + low) ⌝ }
 {
     match life_cycle::transition(session.state, target) {
         Entry::Forbidden => Permit::Refused(Answer::NotInTable),
         Entry::Allowed(token) => match token {
             Token::Nothing => Permit::Granted,
             Token::RawUnlock => compared(chip::eight_words(constants, RAW_UNLOCK_HASH), high, low),
-            Token::TestUnlock => locked_permit(copy, session, token, high, low),
-            Token::TestExit => locked_permit(copy, session, token, high, low),
-            Token::Rma => locked_permit(copy, session, token, high, low),
+            Token::TestUnlock => locked_permit(copy, map, session, token, high, low),
+            Token::TestExit => locked_permit(copy, map, session, token, high, low),
+            Token::Rma => locked_permit(copy, map, session, token, high, low),
         },
     }
 }
@@ -173,14 +200,15 @@ pub fn transition(
     cells: &mut [u16],
     copy: &[u16],
     constants: &[u16],
+    map: MapName,
     session: Session,
     target: u8,
     token_high: u64,
     token_low: u64,
 ) -> Outcome
-    ensures { λ r. ⌜ resultOf (now (cells .exit)) (now (copy .entry)) (now (constants .entry)) r ≡ resultFor (Command.Transition target «token_high» «token_low») (machineOf (now (cells .entry)) (now (copy .entry)) (now (constants .entry)) session) ⌝ }
+    ensures { λ r. ⌜ resultOf (now (cells .exit)) (now (copy .entry)) (now (constants .entry)) r ≡ resultFor (mapOf map) (Command.Transition target «token_high» «token_low») (machineOf (now (cells .entry)) (now (copy .entry)) (now (constants .entry)) session) ⌝ }
 {
-    if let Judged::Refused(answer) = chip::admit(cells.len(), copy.len(), constants, session) {
+    if let Judged::Refused(answer) = chip::admit(cells.len(), copy.len(), constants, map, session) {
         return Outcome { session, answer };
     }
     let known = (session.state <= SCRAP) & (session.count <= STROKES);
@@ -199,11 +227,11 @@ pub fn transition(
     if STROKES <= session.count {
         return inert(session, Answer::StrokesUsed);
     }
-    if let Programmed::Refused(cell) = spend(cells, constants, session.count) {
+    if let Programmed::Refused(cell) = spend(cells, constants, map, session.count) {
         return dead(session, cell);
     }
-    match permitted(copy, constants, session, target, token_high, token_low) {
+    match permitted(copy, constants, map, session, target, token_high, token_low) {
         Permit::Refused(answer) => inert(session, answer),
-        Permit::Granted => move_to(cells, constants, session, target),
+        Permit::Granted => move_to(cells, constants, map, session, target),
     }
 }

@@ -7,11 +7,11 @@ use Rattle.bench.proofs.take_turns.Statement.{statement}
 use Rattle.bench.proofs.take_turns.Tie as tie
 
 abbrev Inv-loop : tie.InvT-loop
-Inv-loop script cells₀ copy₀ constants out₀ at₀ left₀ cells copy out at left =
+Inv-loop script cells₀ copy₀ constants map out₀ at₀ left₀ cells copy out at left =
     (length cells ≡ length cells₀) × (length copy ≡ length copy₀) × (length out ≡ length out₀) × (at .waiting .used ≤ length out)
 
 abbrev μ-loop : tie.MeasureT-loop
-μ-loop script cells₀ copy₀ constants out₀ at₀ left₀ cells copy out at left = left
+μ-loop script cells₀ copy₀ constants map out₀ at₀ left₀ cells copy out at left = left
 
 pub take-turns-spec : {M : Type 1} → statement M
 take-turns-spec =

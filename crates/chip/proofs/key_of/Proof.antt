@@ -14,24 +14,29 @@ returns-2 c = rw (c .enum-told2 .given .1)
 
 returns-3 : tie.Need-returns-3
 unfolding keyOf
-returns-3 c = rw (c .before .enum-told3 .given .1) (c .eight-words .ensures)
+returns-3 c = rw (c .enum-told3 .given .1)
 
 returns-4 : tie.Need-returns-4
 unfolding keyOf
-returns-4 c = rw (c .before .enum-told4 .given .1) (c .eight-words2 .ensures)
+returns-4 c = rw (c .before .enum-told4 .given .1) (c .eight-words .ensures)
 
 returns-5 : tie.Need-returns-5
 unfolding keyOf
-returns-5 c = rw (c .before .enum-told5 .given .1) (c .eight-words3 .ensures)
+returns-5 c = rw (c .before .enum-told5 .given .1) (c .eight-words2 .ensures)
 
 returns-6 : tie.Need-returns-6
 unfolding keyOf
-returns-6 c = rw (c .enum-told6 .given .1)
+returns-6 c = rw (c .before .enum-told6 .given .1) (c .eight-words3 .ensures)
+
+returns-7 : tie.Need-returns-7
+unfolding keyOf
+returns-7 c = rw (c .enum-told7 .given .1)
 
 pub key-of-spec : {M : Type 1} → statement M
 key-of-spec =
     tie.close
     (tie.spec
+    (λ c. search needs)
     (λ c. search needs)
     (λ c. search needs)
     (λ c. search needs)
@@ -46,4 +51,5 @@ key-of-spec =
     returns-3
     returns-4
     returns-5
-    returns-6)
+    returns-6
+    returns-7)

@@ -1,7 +1,6 @@
 -- Refused for want of admission, or past the map; else the address has its number and partition.
 use mathlib.Core.Path.{_≡_, sym, ap₂, _∙_}
-use Rattle.partitions.specs.Map1.{map1}
-use Rattle.partitions.proofs.Map1.{map1-limit}
+use Rattle.partitions.specs.Maps.{mapOf}
 use Rattle.partitions.proofs.Map.{partition-at}
 use Rattle.chip.specs.declared.Judged.the-variants.{Accepted}
 use Rattle.chip.specs.Admission.{admittedOf}
@@ -14,29 +13,29 @@ use Rattle.direct_access.proofs.reach.Tie as tie
 abbrev start : tie.After-enum-told → tie.Start
 start t = t .before .before .before .before
 
-accepted : (t : tie.After-enum-told) → let o = start t .args in admittedOf (o .cells) (o .copy) (o .constants .now) (o .session .phase) ≡ Accepted
+accepted : (t : tie.After-enum-told) → let o = start t .args in admittedOf (mapOf (o .map)) (o .cells) (o .copy) (o .constants .now) (o .session .phase) ≡ Accepted
 accepted t = sym (t .before .before .admit .ensures) ∙ t .enum-told .given .1
 
 returns : tie.Need-returns
 returns c =
-    let t = c .before in
+    let t = c .before .before in
     let o = start t .args in
-    sym (past-map _ _ _ (o .session .phase) (o .address) (accepted t) (rw map1-limit (c .if1 .taken)))
+    sym (past-map _ _ _ _ (o .session .phase) (o .address) (accepted t) (rw (← c .before .limit .ensures) (c .if1 .taken)))
 
 returns-2 : tie.Need-returns-2
 returns-2 c =
     let a = c .before .before .before in
     let o = a .before .before .args in
-    sym (not-admitted _ _ _ (o .session .phase) (o .address) _ (sym (a .admit .ensures) ∙ c .before .answer .given .1))
+    sym (not-admitted _ _ _ _ (o .session .phase) (o .address) _ (sym (a .admit .ensures) ∙ c .before .answer .given .1))
 
 returns-3 : tie.Need-returns-3
 returns-3 c =
     let n = c .before in
-    let t = n .before .before in
+    let t = n .before .before .before in
     let o = start t .args in
     let e = n .number-at .ensures in
-    let found = c .partition-of .ensures ∙ sym (partition-at map1 (o .address) (sym e)) in
-    ap₂ At e found ∙ sym (in-map _ _ _ (o .session .phase) (o .address) (accepted t) (rw map1-limit (n .before .if1 .left)))
+    let found = c .partition-of .ensures ∙ sym (partition-at _ (o .address) (sym e)) in
+    ap₂ At e found ∙ sym (in-map _ _ _ _ (o .session .phase) (o .address) (accepted t) (rw (← n .before .before .limit .ensures) (n .before .if1 .left)))
 
 pub reach-spec : {M : Type 1} → statement M
 reach-spec =
@@ -45,6 +44,7 @@ reach-spec =
     (λ c κs. search needs)
     (λ c. search needs)
     (λ c. search needs)
+    (λ c κs. search needs)
     returns
     (λ c κs. search needs)
     (λ c κs. search needs)

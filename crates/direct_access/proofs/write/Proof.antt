@@ -1,20 +1,23 @@
 -- No place, no right, or the granule is programmed with the words of the value.
-use mathlib.Core.Path.{_≡_, sym, ap, ap₂, _∙_}
+use mathlib.Core.Path.{_≡_, sym, ap, _∙_}
 use mathlib.Core.List.{List}
 use Prim.Native.Nat.{ℕ, _≤_}
 use native.Mathlib.Omega.{arith}
 use lib.ListN.{take}
 use lib.Seq.{length-take-le}
 use borrow.Author.Tests.{not-true, not-false}
+use Rattle.words.specs.declared.Rule.{Rule}
 use Rattle.words.specs.declared.Programmed.{Programmed}
 use Rattle.words.specs.Words.{wordsOf}
 use Rattle.words.proofs.Words.{words-take, length-words}
 use Rattle.partitions.specs.declared.Partition.{Partition}
 use Rattle.partitions.specs.Map.{wordCount}
 use Rattle.model.specs.declared.Answer.the-variants.{Done}
+use Rattle.partitions.specs.Maps.{mapOf}
+use Rattle.partitions.proofs.Maps.{maps-fit}
 use Rattle.model.specs.Lent.{Machine}
 use Rattle.model.specs.Acts.{stay, say, program}
-use Rattle.model.specs.Commands.{directRule, scrambled}
+use Rattle.model.specs.Commands.{scrambled}
 use Rattle.chip.specs.Chip.{primitives, machineOf}
 use Rattle.direct_access.specs.declared.Reached.the-variants.{At}
 use Rattle.direct_access.specs.Access.{programmedAnswer}
@@ -35,14 +38,14 @@ lent r = let o = start r .args in machineOf (o .cells .now) (o .copy .now) (o .c
 abbrev found : tie.After-number → Partition
 found t = t .number .given .0 .1 .0
 
-at-place : (t : tie.After-number) → let r = t .before .before in reached (lent r) (start r .args .address) ≡ At (t .number .given .0 .0) (found t)
+at-place : (t : tie.After-number) → let r = t .before .before in reached (mapOf (start r .args .map)) (lent r) (start r .args .address) ≡ At (t .number .given .0 .0) (found t)
 at-place t = sym (t .before .before .reach .ensures) ∙ t .number .given .1
 
 returns : tie.Need-returns
-returns c = denied (write-decided _ _ _) (at-place (c .before .before .before)) (sym (c .before .may-write .ensures) ∙ not-true _ (c .if1 .taken))
+returns c = denied (write-decided _ _ _ _) (at-place (c .before .before .before)) (sym (c .before .may-write .ensures) ∙ not-true _ (c .if1 .taken))
 
 few : (t : tie.After-granule-at) → t .granule-at .result .words ≤ 4
-few t = let h = held _ _ _ _ _ _ _ (at-place (t .before .before .before .before)) in omega (arith, h .few, t .granule-at .ensures .1)
+few t = let h = held _ _ _ _ _ _ (maps-fit _) _ _ (at-place (t .before .before .before .before)) in omega (arith, h .few, t .granule-at .ensures .1)
 
 -- the words lent are those of the scrambled value
 lent-words : (t : tie.After-split) → let g = t .before .before in let n = g .before .before .before .before in
@@ -50,28 +53,32 @@ lent-words : (t : tie.After-split) → let g = t .before .before in let n = g .b
     take (g .granule-at .result .words) (t .split .result) ≡ wordsOf (wordCount p (o .address)) (scrambled primitives (o .constants .now) p (o .value))
 lent-words t =
     let g = t .before .before in
-    let h = held _ _ _ _ _ _ _ (at-place (g .before .before .before .before)) in
+    let h = held _ _ _ _ _ _ (maps-fit _) _ _ (at-place (g .before .before .before .before)) in
     rw (t .split .ensures, t .before .scrambled .ensures, g .granule-at .ensures .1) (words-take _ 4 _ (h .few))
 
 array-share-prefix-words : tie.Need-array-share-prefix-words
-array-share-prefix-words c = rw (c .before .split .ensures, length-words 4) (few (c .before .before .before))
+array-share-prefix-words c = let t = c .before .before in rw (t .split .ensures, length-words 4) (few (t .before .before))
 
 slice-aggregate-program : tie.Need-slice-aggregate-program
 slice-aggregate-program c =
-    let t = c .before .before in
+    let t = c .before .before .before in
     sym (length-take-le _ (t .split .result) (rw (t .split .ensures, length-words 4) (few (t .before .before))))
 
+same-program : {r s : Rule} → r ≡ s → {i j : ℕ} → i ≡ j → {v w : List ℕ} → v ≡ w → program r i v stay (say (Done 0) stay) ≡ program s j w stay (say (Done 0) stay)
+same-program e f g = rw (e, f, g)
+
 returns-2 : tie.Need-returns-2
-returns-2 c = stopped (write-decided _ _ _) (sym (c .before .before .before .reach .ensures) ∙ c .before .answer .given .1)
+returns-2 c = stopped (write-decided _ _ _ _) (sym (c .before .before .before .reach .ensures) ∙ c .before .answer .given .1)
 
 returns-3 : tie.Need-returns-3
 returns-3 c =
     let q = c .before .before .before in
-    let t = q .before .before .before in
+    let r = q .before .before .before in
+    let t = r .before in
     let g = t .before .before in
     let w = g .before .before in
-    burnt (write-decided _ _ _) (at-place (w .before .before)) (sym (w .may-write .ensures) ∙ not-false _ (g .before .if1 .left))
-    (ap₂ (λ (at : ℕ) (ws : List ℕ). program directRule at ws stay (say (Done 0) stay)) (sym (g .granule-at .ensures .0)) (sym (lent-words t)))
+    burnt (write-decided _ _ _ _) (at-place (w .before .before)) (sym (w .may-write .ensures) ∙ not-false _ (g .before .if1 .left))
+    (sym (same-program (r .rule-at .ensures) (g .granule-at .ensures .0) (lent-words t)))
     (q .program .ensures .1) (c .answer-of .ensures ∙ ap (λ (r : Programmed). programmedAnswer r 0) (q .program .ensures .0))
 
 pub write-spec : {M : Type 1} → statement M
@@ -83,6 +90,7 @@ write-spec =
     (λ c. search needs)
     (λ c κs. search needs)
     returns
+    (λ c κs. search needs)
     (λ c κs. search needs)
     (λ c κs. search needs)
     (λ c κs. search needs)

@@ -5,7 +5,6 @@ use borrow.Author.Needs.{needs}
 use lib.Dec.{eqb}
 use borrow.Author.Tests.{not-true, not-false}
 use Rattle.partitions.specs.Map.{rightsOf}
-use Rattle.partitions.specs.Map1.{map1}
 use Rattle.partitions.specs.declared.Rights.{Rights}
 use Rattle.chip.specs.Chip.{primitives}
 use Rattle.power_up.proofs.Checking.{none-due, none-stored, compared}
@@ -17,13 +16,13 @@ due : (t : tie.After-rights) {b : Bool} → t .rights .result .hardware ≡ b �
 due t e = sym (ap (λ (r : Rights). r .hardware) (t .rights .ensures)) ∙ e
 
 returns : tie.Need-returns
-returns c = none-due primitives map1 _ _ _ (due (c .before .before) (not-true _ (c .if1 .taken)))
+returns c = none-due primitives _ _ _ (due (c .before .before) (not-true _ (c .if1 .taken)))
 
 returns-2 : tie.Need-returns-2
 returns-2 c =
     let t = c .before .before .before .before in
     let a = t .before .before .before .args in
-    none-stored primitives map1 (a .constants .now) (a .cells .now) (a .partition) (due t (not-false _ (c .before .before .if1 .left)))
+    none-stored primitives (a .constants .now) (a .cells .now) (a .partition) (due t (not-false _ (c .before .before .if1 .left)))
     (sym (c .before .stored-digest .ensures) ∙ c .if2 .taken)
 
 returns-3 : tie.Need-returns-3
@@ -31,7 +30,7 @@ returns-3 c =
     let s = c .before .before in
     let t = s .before .before .before in
     ap₂ eqb (s .stored-digest .ensures) (c .computed-digest .ensures)
-    ∙ compared primitives map1 _ _ _ (due t (not-false _ (s .before .if1 .left))) (λ z. c .before .if2 .left (s .stored-digest .ensures ∙ z))
+    ∙ compared primitives _ _ _ (due t (not-false _ (s .before .if1 .left))) (λ z. c .before .if2 .left (s .stored-digest .ensures ∙ z))
 
 pub digest-holds-spec : {M : Type 1} → statement M
 digest-holds-spec =

@@ -20,19 +20,19 @@ module _ (t : tie.After-judge) where
 woken-requires : tie.Need-woken-requires
 woken-requires c κs =
     let t = c .before .before .before in
-    let r = accepted-right _ _ _ (sym (t .judge .ensures) ∙ c .before .enum-told .given .1) in
+    let r = accepted-right _ _ _ _ (sym (t .judge .ensures) ∙ c .before .enum-told .given .1) in
     (r .cells-right, r .copy-right)
 
 returns : tie.Need-returns
 returns c =
     let t = c .before .before .before in
-    refused-step PowerUp (machine t) _ (sym (t .judge .ensures) ∙ c .before .answer .given .1)
+    refused-step _ PowerUp (machine t) _ (sym (t .judge .ensures) ∙ c .before .answer .given .1)
 
 returns-2 : tie.Need-returns-2
 returns-2 c =
     let t = c .before .before .before .before .before .before in
-    let step = accepted-step PowerUp (machine t) (sym (t .judge .ensures) ∙ c .before .before .before .before .enum-told .given .1) in
-    c .before .before .woken .ensures ∙ sym (ap (λ (s : Step). s .result) step ∙ powered-up (machine t))
+    let step = accepted-step _ PowerUp (machine t) (sym (t .judge .ensures) ∙ c .before .before .before .before .enum-told .given .1) in
+    c .before .before .woken .ensures ∙ sym (ap (λ (s : Step). s .result) step ∙ powered-up _ (machine t))
 
 pub power-up-spec : {M : Type 1} → statement M
 power-up-spec =

@@ -11,7 +11,7 @@ returns c =
     let t = s .before .before .before in
     let a = t .before .before .before .before .before .args in
     let lent = lentOf (a .cells .now) (a .copy .now) (a .constants .now) in
-    ready-result (a .state) (a .count) lent (t .latch .ensures) (s .stored-digests .ensures) (c .value-of .ensures)
+    ready-result _ (a .state) (a .count) lent (t .latch .ensures) (s .stored-digests .ensures) (c .value-of .ensures)
 
 pub ready-spec : {M : Type 1} → statement M
 ready-spec =

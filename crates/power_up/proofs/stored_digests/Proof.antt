@@ -4,19 +4,17 @@ use Prim.Native.Nat.{_-_}
 use native.Mathlib.Omega.{arith}
 use borrow.Author.Needs.{needs}
 use Rattle.basics.proofs.Range.{Follows, follows-none, follows-more, follows-all}
-use Rattle.partitions.specs.declared.Partition.{Partition}
 use Rattle.partitions.specs.Map.{partition}
-use Rattle.partitions.specs.Map1.{map1}
-use Rattle.model.specs.Commands.{storedDigest}
-use Rattle.power_up.proofs.Waking.{six-digests}
+use Rattle.partitions.specs.Maps.{mapOf}
+use Rattle.model.specs.PowerUp.{sensedDigest, digests}
 use Rattle.power_up.proofs.stored_digests.Statement.{statement}
 use Rattle.power_up.proofs.stored_digests.Tie as tie
 
 abbrev Inv-loop : tie.InvT-loop
-Inv-loop cells digests₀ number₀ digests number = Follows (λ n. storedDigest (partition map1 n) cells) 6 digests number
+Inv-loop cells map digests₀ number₀ digests number = Follows (λ n. sensedDigest cells (partition (mapOf map) n)) 10 digests number
 
 abbrev μ-loop : tie.MeasureT-loop
-μ-loop cells digests₀ number₀ digests number = 6 - number
+μ-loop cells map digests₀ number₀ digests number = 10 - number
 
 loop-holds : tie.Need-loop-holds Inv-loop μ-loop
 loop-holds c = follows-none refl
@@ -25,13 +23,12 @@ loop-again : tie.Need-loop-again Inv-loop μ-loop
 loop-again c =
     let l = c .before .before .before in
     let cells = l .before .before .args .cells .now in
-    let e = c .stored-digest .ensures ∙ ap (λ (p : Partition). storedDigest p cells) (c .before .partition-of .ensures) in
+    let e = c .sensed-digest .ensures ∙ ap (sensedDigest cells) (c .before .partition-of .ensures) in
     follows-more (l .loop .inv) (omega arith) e
 
 returns : tie.Need-returns Inv-loop μ-loop
-returns c =
-    let cells = c .before .before .before .args .cells .now in
-    follows-all (c .before .loop .inv) (omega arith) ∙ six-digests (λ p. storedDigest p cells)
+unfolding digests
+returns c = follows-all (c .before .loop .inv) (omega arith)
 
 pub stored-digests-spec : {M : Type 1} → statement M
 stored-digests-spec =

@@ -1,7 +1,8 @@
 -- A failed check ends the power-up; else the life cycle decides.
 use mathlib.Core.Path.{sym, _∙_}
 use borrow.Author.Needs.{needs}
-use Rattle.partitions.specs.Map1.{map1}
+use Rattle.partitions.specs.Map.{Map}
+use Rattle.partitions.specs.Maps.{mapOf}
 use Rattle.model.specs.Lent.{Lent}
 use Rattle.model.specs.PowerUp.{waking}
 use Rattle.chip.specs.Chip.{primitives}
@@ -14,6 +15,9 @@ module _ (t : tie.After-first-failing) where
   abbrev start : tie.Start
   start = t .before .before .before .before
 
+  abbrev map : Map
+  map = mapOf (start .args .map)
+
   abbrev lent : Lent
   lent = lentOf (start .args .cells .now) (start .args .copy .now) (start .args .constants .now)
 
@@ -22,14 +26,14 @@ returns c =
     let d = c .before .before in
     let t = d .before .before .before .before .before in
     let told = sym (d .before .before .before .number .given .1) ∙ t .first-failing .ensures in
-    dead-result (waking primitives map1) (lent t) (failed (lent t) _ told) (start t .pre .1) (d .dead .ensures .0) (d .dead .ensures .1)
+    dead-result (map t) (waking primitives (map t)) (lent t) (failed _ (lent t) _ told) (start t .pre .1) (d .dead .ensures .0) (d .dead .ensures .1)
 
 returns-2 : tie.Need-returns-2
 returns-2 c =
     let v = c .before .before in
     let t = v .before .before .before .before in
     let told = sym (v .before .before .enum-told .given .1) ∙ t .first-failing .ensures in
-    v .live .ensures ∙ sym (woken-as (waking primitives map1) (lent t) (passed (lent t) told))
+    v .live .ensures ∙ sym (woken-as (map t) (waking primitives (map t)) (lent t) (passed _ (lent t) told))
 
 pub woken-spec : {M : Type 1} → statement M
 woken-spec =

@@ -1,5 +1,6 @@
 -- No record: the reading decides. A record: what `execute` made, with the line of its answer.
 use mathlib.Core.Path.{sym, _∙_}
+use Rattle.partitions.specs.Maps.{mapOf}
 use Rattle.chip.specs.Chip.{machineOf, resultOf}
 use Rattle.transcript.specs.Turns.{turnOf}
 use Rattle.transcript.proofs.Turns.{turn-stopped, turn-goes}
@@ -16,7 +17,7 @@ returns c =
     let o = start (c .before .before) .args in
     let n = c .before .before .next-at .result in
     rw (c .stopped .ensures, ← c .before .before .next-at .ensures)
-    (turn-stopped n (o .script .now) (o .place) (o .cells .now) (o .copy .now) (o .constants .now) (o .session) (c .before .match .keys2))
+    (turn-stopped (mapOf (o .map)) n (o .script .now) (o .place) (o .cells .now) (o .copy .now) (o .constants .now) (o .session) (c .before .match .keys2))
 
 returns-2 : tie.Need-returns-2
 returns-2 c =
@@ -25,6 +26,7 @@ returns-2 c =
     let t = x .before .before .before .before .before .before in
     let s = start t in
     turn-goes
+    (mapOf (s .args .map))
     (s .args .script .now)
     (s .args .place)
     (machineOf (s .args .cells .now) (s .args .copy .now) (s .args .constants .now) (s .args .session))

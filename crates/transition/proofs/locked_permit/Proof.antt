@@ -3,7 +3,7 @@ use mathlib.Core.Path.{_≡_, sym, ap, _∙_}
 use Prim.Native.Nat.{ℕ, _+_, _*_, _^_}
 use Rattle.words.specs.Words.{numberOf, partAt}
 use Rattle.partitions.specs.Map.{numberOfKind}
-use Rattle.partitions.specs.Map1.{map1}
+use Rattle.partitions.specs.Maps.{mapOf}
 use Rattle.model.specs.Session.{sensedAt}
 use Rattle.model.specs.Commands.{tokenKind, storedToken, hashesTo}
 use Rattle.chip.specs.Chip.{primitives}
@@ -14,13 +14,13 @@ use Rattle.transition.proofs.locked_permit.Statement.{statement}
 use Rattle.transition.proofs.locked_permit.Tie as tie
 
 sensed : (t : tie.After-sensed-at) → let o = t .before .before .before .args in
-    t .sensed-at .result ≡ sensedAt (o .session) (numberOfKind map1 (tokenKind (o .token)))
+    t .sensed-at .result ≡ sensedAt (o .session) (numberOfKind (mapOf (o .map)) (tokenKind (o .token)))
 sensed t = let o = t .before .before .before .args in t .sensed-at .ensures ∙ ap (sensedAt (o .session)) (t .before .lock-of .ensures)
 
 returns : tie.Need-returns
 returns c =
     let o = c .before .before .before .before .args in
-    sym (not-locked (o .session) (o .copy .now) (o .token) _ (sym (sensed (c .before)) ∙ c .if1 .taken))
+    sym (not-locked _ (o .session) (o .copy .now) (o .token) _ (sym (sensed (c .before)) ∙ c .if1 .taken))
 
 returns-2 : tie.Need-returns-2
 unfolding storedToken
@@ -31,7 +31,7 @@ returns-2 c =
     let given = o .high * 2 ^ 64 + o .low in
     c .compared .ensures
     ∙ ap (λ (x : ℕ). comparedAs (hashesTo primitives given x)) (w .eight-words .ensures ∙ ap (λ (at : ℕ). numberOf (partAt (o .copy .now) at 8)) (w .before .place-of .ensures))
-    ∙ sym (locked (o .session) (o .copy .now) (o .token) given (λ e. w .before .before .if1 .left (sensed t ∙ e)))
+    ∙ sym (locked _ (o .session) (o .copy .now) (o .token) given (λ e. w .before .before .if1 .left (sensed t ∙ e)))
 
 pub locked-permit-spec : {M : Type 1} → statement M
 locked-permit-spec =

@@ -2,26 +2,24 @@
 use mathlib.Core.Path.{_≡_, sym, ap, _∙_}
 use Rattle.words.specs.Programming.{programAnswer, programCells}
 use Rattle.life_cycle.specs.Words.{stateWords}
-use Rattle.partitions.specs.Map1.{map1}
+use Rattle.partitions.specs.Maps.{mapOf}
 use Rattle.model.specs.Commands.{lifeCycleRule, stateAt}
-use Rattle.chip.specs.Chip.{primitives}
 use Rattle.transition.specs.Permit.{movedAs}
-use Rattle.model.proofs.LifeCyclePlace.{state-place}
 use Rattle.transition.proofs.Moving.{same-program}
 use borrow.Author.Needs.{needs}
 use Rattle.transition.proofs.move_to.Statement.{statement}
 use Rattle.transition.proofs.move_to.Tie as tie
 
 abbrev start : tie.After-program → tie.Start
-start q = q .before .before .before .before .before .before
+start q = q .before .before .before .before .before .before .before
 
 answered : (q : tie.After-program) → let o = start q .args in
-    (q .program .result ≡ programAnswer lifeCycleRule (o .cells .now) (stateAt map1) (stateWords (o .constants .now) (o .target)))
-    × (q .program .last .1 .0 ≡ programCells lifeCycleRule (o .cells .now) (stateAt map1) (stateWords (o .constants .now) (o .target)))
+    (q .program .result ≡ programAnswer lifeCycleRule (o .cells .now) (stateAt (mapOf (o .map))) (stateWords (o .constants .now) (o .target)))
+    × (q .program .last .1 .0 ≡ programCells lifeCycleRule (o .cells .now) (stateAt (mapOf (o .map))) (stateWords (o .constants .now) (o .target)))
 answered q =
     let o = start q .args in
     let e = q .before .before .before .state-words .ensures in
-    let same = same-program lifeCycleRule (o .cells .now) (state-place primitives) e in
+    let same = same-program lifeCycleRule (o .cells .now) (q .before .before .before .before .state-at .ensures) e in
     (q .program .ensures .0 ∙ same .0, q .program .ensures .1 ∙ same .1)
 
 returns : tie.Need-returns
@@ -40,6 +38,7 @@ pub move-to-spec : {M : Type 1} → statement M
 move-to-spec =
     tie.close
     (tie.spec
+    (λ c κs. search needs)
     (λ c κs. search needs)
     (λ c. search needs)
     (λ c κs. search needs)

@@ -1,6 +1,7 @@
 -- Each arm is the definition at its entry and token.
 use mathlib.Core.Path.{_≡_, refl, sym, ap, _∙_}
 use Prim.Native.Nat.{ℕ, _+_, _*_, _^_}
+use Rattle.partitions.specs.Maps.{mapOf}
 use Rattle.life_cycle.specs.declared.Token.{Token}
 use Rattle.life_cycle.specs.declared.Token.the-variants.{Nothing, RawUnlock, TestUnlock, TestExit, Rma}
 use Rattle.life_cycle.specs.declared.Entry.{Entry}
@@ -23,9 +24,9 @@ given s = s .args .high * 2 ^ 64 + s .args .low
 
 -- an arm on the token that the table needs
 arm : (t : tie.After-token) (token : Token) (p : Permit) → let o = start t .args in t .token .given .0 .0 ≡ token
-    → p ≡ tokenPermit (o .session) (o .copy .now) (o .constants .now) token (given (start t))
-    → p ≡ permitOf (o .session) (o .copy .now) (o .constants .now) (transition (o .session .state) (o .target)) (given (start t))
-arm t token p = by-token _ _ _ _ _ _ token p (sym (t .before .before .transition .ensures) ∙ t .token .given .1)
+    → p ≡ tokenPermit (mapOf (o .map)) (o .session) (o .copy .now) (o .constants .now) token (given (start t))
+    → p ≡ permitOf (mapOf (o .map)) (o .session) (o .copy .now) (o .constants .now) (transition (o .session .state) (o .target)) (given (start t))
+arm t token p = by-token _ _ _ _ _ _ _ token p (sym (t .before .before .transition .ensures) ∙ t .token .given .1)
 
 returns : tie.Need-returns
 unfolding permitOf
@@ -33,7 +34,7 @@ returns c =
     let t = c .before .before in
     let s = t .before .before .before in
     let o = s .args in
-    ap (λ (e : Entry). permitOf (o .session) (o .copy .now) (o .constants .now) e (given s)) (sym (c .enum-told .given .1) ∙ t .transition .ensures)
+    ap (λ (e : Entry). permitOf (mapOf (o .map)) (o .session) (o .copy .now) (o .constants .now) e (given s)) (sym (c .enum-told .given .1) ∙ t .transition .ensures)
 
 returns-2 : tie.Need-returns-2
 unfolding tokenPermit
@@ -48,12 +49,12 @@ returns-3 c =
 
 -- an arm on a stored token
 locked-arm : (t : tie.After-token) (token : Token) (p : Permit) → let o = start t .args in t .token .given .0 .0 ≡ token
-    → p ≡ lockedPermit (o .session) (o .copy .now) (t .token .given .0 .0) (given (start t))
-    → lockedPermit (o .session) (o .copy .now) token (given (start t)) ≡ tokenPermit (o .session) (o .copy .now) (o .constants .now) token (given (start t))
-    → p ≡ permitOf (o .session) (o .copy .now) (o .constants .now) (transition (o .session .state) (o .target)) (given (start t))
+    → p ≡ lockedPermit (mapOf (o .map)) (o .session) (o .copy .now) (t .token .given .0 .0) (given (start t))
+    → lockedPermit (mapOf (o .map)) (o .session) (o .copy .now) token (given (start t)) ≡ tokenPermit (mapOf (o .map)) (o .session) (o .copy .now) (o .constants .now) token (given (start t))
+    → p ≡ permitOf (mapOf (o .map)) (o .session) (o .copy .now) (o .constants .now) (transition (o .session .state) (o .target)) (given (start t))
 locked-arm t token p e f g =
     let o = start t .args in
-    arm t token p e (f ∙ ap (λ (token : Token). lockedPermit (o .session) (o .copy .now) token (given (start t))) e ∙ g)
+    arm t token p e (f ∙ ap (λ (token : Token). lockedPermit (mapOf (o .map)) (o .session) (o .copy .now) token (given (start t))) e ∙ g)
 
 returns-4 : tie.Need-returns-4
 unfolding tokenPermit

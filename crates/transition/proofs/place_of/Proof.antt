@@ -1,44 +1,11 @@
--- Each arm is the word that the definition computes for its token.
-use Rattle.basics.specs.Choice.{if_then_else_}
-use Rattle.partitions.specs.Map.{numberOfKind, kindNumber, partition}
-use Rattle.partitions.specs.Map1.{map1}
-use Rattle.model.specs.Commands.{tokenKind, tokenOffset}
+-- The token's offset from the start of its partition, in words.
 use borrow.Author.Needs.{needs}
 use Rattle.transition.proofs.place_of.Statement.{statement}
 use Rattle.transition.proofs.place_of.Tie as tie
 
 returns : tie.Need-returns
-unfolding partition numberOfKind kindNumber tokenKind tokenOffset map1 if_then_else_
-returns c = rw (c .enum-told .given .1)
-
-returns-2 : tie.Need-returns-2
-unfolding partition numberOfKind kindNumber tokenKind tokenOffset map1 if_then_else_
-returns-2 c = rw (c .enum-told2 .given .1)
-
-returns-3 : tie.Need-returns-3
-unfolding partition numberOfKind kindNumber tokenKind tokenOffset map1 if_then_else_
-returns-3 c = rw (c .enum-told3 .given .1)
-
-returns-4 : tie.Need-returns-4
-unfolding partition numberOfKind kindNumber tokenKind tokenOffset map1 if_then_else_
-returns-4 c = rw (c .enum-told4 .given .1)
-
-returns-5 : tie.Need-returns-5
-unfolding partition numberOfKind kindNumber tokenKind tokenOffset map1 if_then_else_
-returns-5 c = rw (c .enum-told5 .given .1)
+returns c = let p = c .before .before in rw (c .offset-of .ensures .0, p .partition-of .ensures, p .before .lock-of .ensures)
 
 pub place-of-spec : {M : Type 1} → statement M
 place-of-spec =
-    tie.close
-    (tie.spec
-    (λ c. search needs)
-    (λ c. search needs)
-    (λ c. search needs)
-    (λ c. search needs)
-    (λ c. search needs)
-    (λ c. search needs)
-    returns
-    returns-2
-    returns-3
-    returns-4
-    returns-5)
+    tie.close (tie.spec (λ c κs. search needs) (λ c κs. search needs) (λ c κs. search needs) (λ c. search needs) returns)

@@ -4,7 +4,7 @@ use Prim.Native.Nat.{suc}
 use borrow.Author.Tests.{not-true, not-false}
 use Rattle.words.specs.declared.Programmed.the-variants.{Done}
 use Rattle.words.specs.Programming.{programAnswer}
-use Rattle.partitions.specs.Map1.{map1}
+use Rattle.partitions.specs.Maps.{mapOf}
 use Rattle.life_cycle.specs.Words.{counterWords}
 use Rattle.model.specs.declared.Command.the-variants.{Transition}
 use Rattle.model.specs.Lent.{Machine}
@@ -23,23 +23,23 @@ lent s = machineOf (s .args .cells .now) (s .args .copy .now) (s .args .constant
 abbrev start : tie.After-enum-told → tie.Start
 start t = t .before .before .before .before .before .before
 
-accepted : (t : tie.After-enum-told) → admission (lent (start t)) ≡ Accepted
+accepted : (t : tie.After-enum-told) → admission (mapOf (start t .args .map)) (lent (start t)) ≡ Accepted
 accepted t = sym (t .before .before .admit .ensures) ∙ t .enum-told .given .1
 
-known : (e : tie.Else1) → Known (lent (start (e .before .before .before)))
+known : (e : tie.Else1) → Known (mapOf (start (e .before .before .before) .args .map)) (lent (start (e .before .before .before)))
 known e = record { admitted-there = accepted (e .before .before .before); good-record = not-false _ (e .if1 .left) }
 
 abbrev spent : tie.After-spend → tie.Start
 spent q = start (q .before .before .before .before .before .before .before .before)
 
-ready : (q : tie.After-spend) → Spendable (lent (spent q)) (spent q .args .target)
+ready : (q : tie.After-spend) → Spendable (mapOf (spent q .args .map)) (lent (spent q)) (spent q .args .target)
 ready q =
     let b = q .before .before in
     let e = b .before .before in
     record { known = known (e .before); target-known = e .if2 .left; stroke-left = b .if3 .left }
 
 done : (w : tie.After-permitted) → let o = spent (w .before .before .before .before .before) .args in
-    programAnswer lifeCycleRule (o .cells .now) (counterAt map1) (counterWords (o .constants .now) (suc (o .session .count))) ≡ Done
+    programAnswer lifeCycleRule (o .cells .now) (counterAt (mapOf (o .map))) (counterWords (o .constants .now) (suc (o .session .count))) ≡ Done
 done w = sym (w .before .before .before .before .before .spend .ensures .0) ∙ w .before .enum-told2 .given .1
 
 returns : tie.Need-returns
@@ -47,35 +47,35 @@ returns c =
     let t = c .before .before .before in
     let s = t .before .before .before .before in
     let o = s .args in
-    refused (Transition (o .target) (o .token-high) (o .token-low)) (lent s) tt _ (sym (t .admit .ensures) ∙ c .before .answer .given .1)
+    refused _ (Transition (o .target) (o .token-high) (o .token-low)) (lent s) tt _ (sym (t .admit .ensures) ∙ c .before .answer .given .1)
 
 returns-2 : tie.Need-returns-2
 returns-2 c =
     let t = c .before .before .before in
     let o = start t .args in
-    bad-record _ _ _ (o .session) (o .target) _ _ (accepted t) (not-true _ (c .if1 .taken))
+    bad-record _ _ _ _ (o .session) (o .target) _ _ (accepted t) (not-true _ (c .if1 .taken))
 
 returns-3 : tie.Need-returns-3
-returns-3 c = unknown-target _ _ _ _ _ _ _ (known (c .before)) (c .if2 .taken)
+returns-3 c = unknown-target _ _ _ _ _ _ _ _ (known (c .before)) (c .if2 .taken)
 
 returns-4 : tie.Need-returns-4
 returns-4 c =
     let b = c .before in
     let e = b .before .before in
-    strokes-used _ _ _ _ _ _ _ (known (e .before)) (e .if2 .left) (b .if3 .taken) _ (c .inert .ensures)
+    strokes-used _ _ _ _ _ _ _ _ (known (e .before)) (e .if2 .left) (b .if3 .taken) _ (c .inert .ensures)
 
 returns-5 : tie.Need-returns-5
 returns-5 c =
     let t = c .before .before in
     let q = t .before .before .before .before in
-    stroke-refused _ _ _ _ _ _ _ (ready q) _ (q .spend .ensures .1) _ (sym (q .spend .ensures .0) ∙ t .cell .given .1) _ (c .dead .ensures)
+    stroke-refused _ _ _ _ _ _ _ _ (ready q) _ (q .spend .ensures .1) _ (sym (q .spend .ensures .0) ∙ t .cell .given .1) _ (c .dead .ensures)
 
 returns-6 : tie.Need-returns-6
 returns-6 c =
     let a = c .before .before in
     let w = a .before .before in
     let q = w .before .before .before .before .before in
-    not-permitted _ _ _ _ _ _ _ (ready q) _ (q .spend .ensures .1) (done w) _ (sym (w .permitted .ensures) ∙ a .answer2 .given .1) _ (c .inert2 .ensures)
+    not-permitted _ _ _ _ _ _ _ _ (ready q) _ (q .spend .ensures .1) (done w) _ (sym (w .permitted .ensures) ∙ a .answer2 .given .1) _ (c .inert2 .ensures)
 
 returns-7 : tie.Need-returns-7
 returns-7 c =
@@ -83,7 +83,7 @@ returns-7 c =
     let a = v .before .before in
     let w = a .before .before in
     let q = w .before .before .before .before .before in
-    moved _ _ _ _ _ _ _ (ready q) _ (q .spend .ensures .1) (done w) (sym (w .permitted .ensures) ∙ a .enum-told3 .given .1) _ _
+    moved _ _ _ _ _ _ _ _ (ready q) _ (q .spend .ensures .1) (done w) (sym (w .permitted .ensures) ∙ a .enum-told3 .given .1) _ _
     (v .move-to .ensures .0) (v .move-to .ensures .1)
 
 pub transition-spec : {M : Type 1} → statement M

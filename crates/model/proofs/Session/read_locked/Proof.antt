@@ -15,7 +15,7 @@ returns c = refl
 returns-2 : tie.Need-returns-2
 unfolding readLocked
 returns-2 c =
-    let l : length (c .before .args .t1 .locks) ≡ 2 = search needs in
+    let l : length (c .before .args .t1 .locks) ≡ 10 = search needs in
     sym (List·getD-eq-default (c .before .args .t1 .locks) false {n = c .before .args .number} (omega arith))
 
 pub read-locked-spec : {M : Type 1} → statement M

@@ -14,7 +14,7 @@ returns c = refl
 returns-2 : tie.Need-returns-2
 unfolding sensedAt
 returns-2 c =
-    let l : length (c .before .args .t1 .sensed) ≡ 6 = search needs in
+    let l : length (c .before .args .t1 .sensed) ≡ 10 = search needs in
     sym (List·getD-eq-default (c .before .args .t1 .sensed) 0 {n = c .before .args .number} (omega arith))
 
 pub sensed-at-spec : {M : Type 1} → statement M
