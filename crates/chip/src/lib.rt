@@ -58,13 +58,7 @@ pub fn judge(cells: usize, copy: usize, constants: &[u16], map: MapName) -> Judg
 }
 
 // What every command but power-up tests first: what is lent, then the phase.
-pub fn admit(
-    cells: usize,
-    copy: usize,
-    constants: &[u16],
-    map: MapName,
-    session: Session,
-) -> Judged
+pub fn admit(cells: usize, copy: usize, constants: &[u16], map: MapName, session: Session) -> Judged
     ensures { λ r. ⌜ r ≡ admittedOf (mapOf map) cells copy (now (constants .entry)) (session .phase) ⌝ }
 {
     match judge(cells, copy, constants, map) {

@@ -1,7 +1,7 @@
--- The table of cases holds of the chip, whatever its keys and digest constants: a digest is a number of 64 bits, and a hash one of 128. That the wrong token
+-- The tables of cases hold of the chip, whatever its keys and digest constants: a digest is a number of 64 bits, and a hash one of 128. That the wrong token
 -- of case 10 has another hash than the right one is asked: the checker can't compute a hash in a bearable time.
 use mathlib.Core.Path.{_≡_}
-use Prim.Native.Nat.{ℕ, _<_}
+use Prim.Native.Nat.{ℕ, _^_, _<_}
 use lib.Dec.{lit<}
 use Rattle.basics.specs.Range.{listed}
 use Rattle.words.specs.Words.{partAt}
@@ -12,13 +12,25 @@ use Rattle.token_hash.specs.TokenHash.{tokenHash}
 use Rattle.token_hash.proofs.Fits.{hash-lt}
 use Rattle.model.specs.Lent.{digestStart, digestFinal}
 use Rattle.model.specs.Cases.{table, Hold, blankDigest}
+use Rattle.model.specs.CaseTables.{constants}
+use Rattle.model.specs.CasesOfMap2.{tableOfMap2, HoldOnMap2, blankHwCfg1Digest}
 use Rattle.model.proofs.Cases.{cases}
+use Rattle.model_examples.proofs.CasesOfMap2.{cases-of-map2}
 use Rattle.chip.specs.Chip.{primitives}
 
-pub chip-cases : (keys : ℕ → ℕ) → ((i : ℕ) → keys i < 65536) → (tokenHash 8 ≡ tokenHash 7 → ⊥) → Hold primitives keys (table (blankDigest primitives keys))
+-- a digest of blank words, with any keys and digest constants
+blank-digest-lt : (keys : ℕ → ℕ) → ((i : ℕ) → keys i < 65536) → (n : ℕ)
+    → primitives .digest (digestStart (constants primitives keys)) (digestFinal (constants primitives keys)) (listed (λ i. 0) 0 n) < 2 ^ 64
 unfolding digestStart digestFinal partAt listed
-chip-cases keys h other =
-    cases primitives keys
-    (digest-lt _ _ (listed (λ i. 0) 0 36) (number-lt (listed keys 24 4) (listed-words h 24 4)) (number-lt (listed keys 28 8) (listed-words h 28 8))
-    (listed-words {f = λ i. 0} (λ i. lit< tt) 0 36))
-    (hash-lt 7) other
+blank-digest-lt keys h n =
+    digest-lt _ _ (listed (λ i. 0) 0 n) (number-lt (listed keys 24 4) (listed-words h 24 4)) (number-lt (listed keys 28 8) (listed-words h 28 8))
+    (listed-words {f = λ i. 0} (λ i. lit< tt) 0 n)
+
+module _ (keys : ℕ → ℕ) (h : (i : ℕ) → keys i < 65536) (other : tokenHash 8 ≡ tokenHash 7 → ⊥) where
+  pub chip-cases : Hold primitives keys (table (blankDigest primitives keys))
+  unfolding listed
+  chip-cases = cases primitives keys (blank-digest-lt keys h 36) (hash-lt 7) other
+
+  pub chip-cases-of-map2 : HoldOnMap2 primitives keys (tableOfMap2 (blankHwCfg1Digest primitives keys))
+  unfolding listed
+  chip-cases-of-map2 = cases-of-map2 primitives keys (blank-digest-lt keys h 4) (hash-lt 7) other

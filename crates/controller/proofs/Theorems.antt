@@ -7,7 +7,9 @@ use Rattle.model.specs.Terms.{Cipher}
 use Rattle.model.specs.Refusals.{Refusals}
 use Rattle.model.specs.Demand3.{Demand3}
 use Rattle.model.specs.Beyond.{Beyond}
+use Rattle.model.specs.OldRule.{OldRule}
 use Rattle.model.proofs.Theorems.{refusals, demand3, beyond}
+use Rattle.model.proofs.OldRule.{old-rule}
 use Rattle.chip.specs.Chip.{primitives}
 
 pub present-cipher : Cipher primitives
@@ -22,3 +24,6 @@ module _ (name : MapName) where
 
   pub chip-beyond : Beyond primitives (mapOf name)
   chip-beyond = beyond primitives present-cipher (mapOf name) (maps-fit name)
+
+  pub chip-old-rule : OldRule primitives (mapOf name)
+  chip-old-rule = old-rule primitives present-cipher (mapOf name) (maps-fit name)

@@ -35,7 +35,7 @@ mayWrite s n p a = rightsOf (p .kind) .direct && not (rightsOf (p .kind) .hardwa
 
 unfoldable pub mayRead : Session → ℕ → Partition → ℕ → Bool
 mayRead s n p a =
-    rightsOf (p .kind) .direct && (inDigest p a || not (readLocked s n) && not (rightsOf (p .kind) .scrambled && sensedLocked s n))
+    rightsOf (p .kind) .direct && (inDigest p a || not (rightsOf (p .kind) .lockable && readLocked s n) && not (rightsOf (p .kind) .scrambled && sensedLocked s n))
 
 unfoldable pub mayFrontRead : Partition → ℕ → Bool
 mayFrontRead p a = rightsOf (p .kind) .front && not (inDigest p a)

@@ -57,14 +57,15 @@ fn may_write(session: Session, number: usize, partition: Partition, address: usi
     rights.direct & !in_digest & !locked
 }
 
-// Direct access; data only where it is not read-locked and no secret that is sensed locked.
+// Direct access; data only where it is not read-locked and no secret that is sensed locked. A read lock counts where the kind has one.
 fn may_read(session: Session, number: usize, partition: Partition, address: usize) -> bool
     ensures { λ r. ⌜ r ≡ mayRead session number partition address ⌝ }
 {
     let kind = partition.kind;
     let rights = kind.rights();
     let locked = rights.scrambled & (session.sensed_at(number) != 0);
-    let data = !session.read_locked(number) & !locked;
+    let shut = rights.lockable & session.read_locked(number);
+    let data = !shut & !locked;
     rights.direct & ((partition.digest <= address) | data)
 }
 

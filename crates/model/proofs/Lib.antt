@@ -19,9 +19,10 @@ pub mod Device
 pub mod Refusals
 pub mod Deaths
 pub mod Quiet
+pub mod OldRule
 pub mod Theorems
 pub mod Everything
+pub mod CaseTables
 pub mod Cases
 pub mod ToyChip
 pub mod Runs
-pub mod RunsOfMap2

@@ -1,10 +1,10 @@
 -- The chip of the computed examples: its cipher flips the lowest bit of a block, its hash that of a token, its digest is always 1, and its keys are zero.
-use mathlib.Core.Bool.{false}
 use mathlib.Core.List.{List, [], _∷_, _++_}
 use Prim.Native.Nat.{ℕ}
 use lib.Bits.{bitXor}
 use lib.ListN.{replicate}
 use Rattle.model.specs.declared.Phase.the-variants.{Ready}
+use Rattle.model.specs.Session.{noDigests, noLocks}
 use Rattle.model.specs.Lent.{Machine, Primitives}
 use Rattle.model.specs.Cases.{chip}
 
@@ -23,7 +23,7 @@ off cells = chip toy (λ i. 0) cells
 abbrev pub ready : ℕ → List ℕ → Machine
 ready state cells = record {
   lent = off cells .lent;
-  session = record { phase = Ready; sensed = 0 ∷ 0 ∷ 0 ∷ 0 ∷ 0 ∷ 0 ∷ []; locks = false ∷ false ∷ []; state = state; count = 0 };
+  session = record { phase = Ready; sensed = noDigests; locks = noLocks; state = state; count = 0 };
 }
 
 -- SECRET0 locked, with TEST_UNLOCK 0x71, whose hash is 0x70 (stored with its lowest bit flipped in each block); TEST_LOCKED0 after two strokes

@@ -30,7 +30,7 @@ use Rattle.model.specs.declared.Command.the-variants.{Read, Write, Diges
 use Rattle.model.specs.Answers.{codeOf, valueOf}
 use Rattle.model.specs.Session.{sensedLocked, readLocked}
 use Rattle.model.specs.Lent.{Machine, Primitives, keyOf}
-use Rattle.model.specs.Acts.{stay, Act, say, perform}
+use Rattle.model.specs.Acts.{stay, Act, say, program, perform}
 use Rattle.model.specs.Commands.{directRule, granule, storedDigest, scrambled, unscrambled, writeAct, readAct, commandAct, readyAct}
 use Rattle.model.specs.Step.{Step, unchanged, performed, act, powerUp, step, after, machineAfter, answerTo}
 use Rattle.model.specs.Terms.{Right, Cipher, Digested, spares, storedWords, usedValue, Lasts, Spared, Allowed, TakesEffect}
@@ -90,7 +90,17 @@ module _ (prims : Primitives) (C : Cipher prims) (map : Map) (F : fit map ≡ tr
   unfolding sensedLocked partitionAt
   not-sensed c₀ m f a l d z = rw (eq-eqb _ 0 (f .felt (numberAt map a) (direct-known a l d) ∙ z))
 
-  -- where the guards pass and no word refuses, the granule is programmed
+  -- where the guards pass, the write is to program its granule
+  pub write-decided : (c₀ : List ℕ) (m : Machine) → Fresh map c₀ m → (a value : ℕ) → a < limit map → rightsOf (partitionAt map a .kind) .direct ≡ true
+      → (rightsOf (partitionAt map a .kind) .hardware && inDigest (partitionAt map a) a) ≡ false → storedDigest (partitionAt map a) c₀ ≡ 0
+      → readyAct prims map m (Write a value)
+      ≡ program (directRule (partitionAt map a) a) (firstWord (partitionAt map a) a) (storedWords prims map (m .lent .constants) a value) stay (say (Done 0) stay)
+  unfolding readyAct commandAct writeAct
+  write-decided c₀ m f a value below direct soft z =
+      if-false _ _ (ap not (f .awake)) ∙ if-false _ _ (lt-leb _ _ below) ∙ if-false _ _ (ap not direct) ∙ if-false _ _ soft
+      ∙ if-false _ _ (not-sensed c₀ m f a below direct z)
+
+  -- and where no word refuses, it does
   write-performed : (c₀ : List ℕ) (m : Machine) → Fresh map c₀ m → (a value : ℕ) → Allowed prims map (m .lent .constants) c₀ (m .lent .cells) a value
       → perform (readyAct prims map m (Write a value)) (m .lent .copy) (m .lent .cells)
       ≡ record {
@@ -99,11 +109,9 @@ module _ (prims : Primitives) (C : Cipher prims) (map : Map) (F : fit map ≡ tr
         turn = stay;
         compared = [];
       }
-  unfolding readyAct commandAct writeAct perform
+  unfolding perform
   write-performed c₀ m f a value al =
-      ap (λ (x : Act). perform x (m .lent .copy) (m .lent .cells))
-      (if-false _ _ (ap not (f .awake)) ∙ if-false _ _ (lt-leb _ _ (al .below)) ∙ if-false _ _ (ap not (al .direct)) ∙ if-false _ _ (al .notDigest)
-      ∙ if-false _ _ (not-sensed c₀ m f a (al .below) (al .direct) (al .unlocked)))
+      ap (λ (x : Act). perform x (m .lent .copy) (m .lent .cells)) (write-decided c₀ m f a value (al .below) (al .direct) (al .notDigest) (al .unlocked))
       ∙ after-done _ _ (al .blank)
 
   pub write-takes : (c₀ : List ℕ) (m : Machine) → Fresh map c₀ m → (a value : ℕ) → Allowed prims map (m .lent .constants) c₀ (m .lent .cells) a value
@@ -162,7 +170,7 @@ module _ (prims : Primitives) (C : Cipher prims) (map : Map) (F : fit map ≡ tr
         (write-stays m) (λ b sp j lo hi. aimless-granule prims map F m (Digest b) below direct j lo hi (not-sealed j lo hi))
         (λ x n sp j lo hi. aimless-granule prims map F m x below direct j lo hi (n j))
 
-    step-stays : (x : Command) (m : Machine) → spares map a x (answerTo prims map x m)
+    pub step-stays : (x : Command) (m : Machine) → spares map a x (answerTo prims map x m)
         → partAt (machineAfter prims map x m .lent .cells) first count ≡ partAt (m .lent .cells) first count
     unfolding unchanged powerUp act performed
     step-stays x m =
@@ -231,7 +239,7 @@ module _ (prims : Primitives) (C : Cipher prims) (map : Map) (F : fit map ≡ tr
             if-false _ _ (ap not (f .awake)) ∙ if-false _ _ (lt-leb _ _ low) ∙ if-false _ _ (ap not d′)
             ∙ by-cases (inDigest p b)
             (λ t. if-true _ _ t ∙ ap (λ (x : ℕ). say (Done x) stay) (digest-is t))
-            (λ t. if-false _ _ t ∙ if-false _ _ (k t) ∙ if-false _ _ (and-false (rightsOf (p .kind) .scrambled) (not-sensed c₀ m f b low d′ z′))
+            (λ t. if-false _ _ t ∙ if-false _ _ (and-false (rightsOf (p .kind) .lockable) (k t)) ∙ if-false _ _ (and-false (rightsOf (p .kind) .scrambled) (not-sensed c₀ m f b low d′ z′))
             ∙ ap (λ (x : ℕ). say (Done x) stay) data-is)
 
         read-back : (c₀ : List ℕ) → Fresh map c₀ m → storedDigest (partitionAt map a) c₀ ≡ 0

@@ -1,38 +1,24 @@
--- The 14 cases of document 01, read with the hashing of request Four, and those of requests Two, Three and Five in one table, over Map 1, for any keys,
--- digest constants, cipher, digest and hash.
-use Prim.Native.Nat.{ℕ, _+_, _-_, _/_}
-use mathlib.Core.Path.{_≡_}
-use mathlib.Core.List.{List, [], _∷_, _++_, map}
-use mathlib.Core.Option.{Option, none, some}
-use lib.ListN.{length, replicate}
-use Rattle.basics.specs.Range.{listed}
-use Rattle.words.specs.Words.{wordsOf}
+-- The 14 cases of document 01, read with the hashing of request Four, and those of requests Two, Three and Five in one table, over Map 1.
+use Prim.Native.Nat.{ℕ}
+use mathlib.Core.List.{List, [], _∷_, _++_}
+use mathlib.Core.Option.{some}
+use lib.ListN.{replicate}
 use Rattle.partitions.specs.Map1.{map1}
-use Rattle.model.specs.declared.Answer.{Answer}
 use Rattle.model.specs.declared.Command.{Command}
 use Rattle.model.specs.declared.Command.the-variants.{Read, Write, FrontRead, Digest, ReadLock, Transition, PowerUp}
-use Rattle.model.specs.Answers.{codeOf, valueOf}
-use Rattle.model.specs.Session.{freshSession}
 use Rattle.model.specs.Lent.{Machine, Primitives, digestStart, digestFinal}
-use Rattle.model.specs.Step.{after, answers}
-
--- a case: the cells at first, commands, the codes and values that they answer, and where it is said, the cells afterwards
-pub record Case : Type 0 where
-  pub cells : List ℕ
-  pub commands : List Command
-  pub expected : List (ℕ × ℕ)
-  pub left : Option (List ℕ)
+use Rattle.model.specs.CaseTables.{Case, blankArray, onBlank, bothSides, secondBurn, whichWord, constants, chipOf, HoldOn}
 
 -- 448 words
 abbrev pub blank : List ℕ
-blank = replicate 448 0
+blank = blankArray 448
+
+abbrev pub case : List Command → List (ℕ × ℕ) → Case
+case = onBlank 448
 
 -- count 24, state RAW: from word 404 (0x328) on, 24 counter words that are all D and 20 state words that are zero
 abbrev pub spent : List ℕ
 spent = replicate 404 0 ++ replicate 24 3 ++ replicate 20 0
-
-abbrev pub case : List Command → List (ℕ × ℕ) → Case
-case commands expected = record { cells = blank; commands = commands; expected = expected; left = none }
 
 -- The cases of document 01, case 7 as request Two has it, case 4 as requests Three and Five have it. Tokens are raw: the right RAW_UNLOCK token is 7, a
 -- wrong one is 8.
@@ -72,87 +58,11 @@ paper =
     ((0x00, 0) ∷ (0x00, 0) ∷ (0x00, 0) ∷ (0x00, 0x99) ∷ (0x00, 0) ∷ (0x00, 0x99) ∷ (0x00, 0x99) ∷ [])
     ∷ []
 
--- four words, the lowest first, and the number of 64 bits that they stand for
-abbrev pub words : List ℕ
-words = 0x7788 ∷ 0x5566 ∷ 0x3344 ∷ 0x1122 ∷ []
-
-abbrev pub number : ℕ
-number = 0x1122334455667788
-
--- cells with some words from a word on, blank elsewhere
-abbrev pub holding : ℕ → List ℕ → List ℕ
-holding at ws = replicate at 0 ++ ws ++ replicate (448 - at - length ws) 0
-
--- Request Two, both sides of 0x0F8 and 0x0FC, in the partition of 0x100 bytes that starts at s.
-module _ (s : ℕ) where
-  -- a write of the number leaves these words from this address on, and no others
-  abbrev pub burns : ℕ → ℕ → List ℕ → Case
-  burns a first ws = record {
-    cells = blank;
-    commands = PowerUp ∷ Write (s + a) number ∷ [];
-    expected = (0x00, 0) ∷ (0x00, 0) ∷ [];
-    left = some (holding ((s + first) / 2) ws);
-  }
-
-  abbrev pub bothSides : List Case
-  bothSides =
-      -- A write at 0x0F7 is 4 bytes of data; 0x0F8 to 0x0FF are one granule of 8.
-      burns 0xF7 0xF4 (0x7788 ∷ 0x5566 ∷ [])
-      ∷ burns 0xF8 0xF8 words
-      ∷ burns 0xFB 0xF8 words
-      ∷ burns 0xFC 0xF8 words
-      ∷ burns 0xFF 0xF8 words
-      -- So it is read.
-      ∷ record {
-        cells = holding ((s + 0xF8) / 2) words;
-        commands = PowerUp ∷ Read (s + 0xF7) ∷ Read (s + 0xF8) ∷ Read (s + 0xFB) ∷ Read (s + 0xFC) ∷ Read (s + 0xFF) ∷ Read (s + 0x100) ∷ [];
-        expected = (0x00, 0) ∷ (0x00, 0) ∷ (0x00, number) ∷ (0x00, number) ∷ (0x00, number) ∷ (0x00, number) ∷ (0x00, 0) ∷ [];
-        left = none;
-      }
-      -- One half is not written after the other, nor both (request Three); the word named is the first of the digest (request Five).
-      ∷ case (PowerUp ∷ Write (s + 0xF8) 1 ∷ Write (s + 0xFC) 0x100000000 ∷ Write (s + 0xF8) 0x100000001 ∷ []) ((0x00, 0) ∷ (0x00, 0) ∷ (0x04, (s + 0xF8) / 2) ∷ (0x04, (s + 0xF8) / 2) ∷ [])
-      -- A digest whose low half is zero locks like any other.
-      ∷ case (PowerUp ∷ Write (s + 0xF8) 0x100000000 ∷ PowerUp ∷ Write (s + 0xF7) 1 ∷ Write (s + 0xF8) 0x100000001 ∷ [])
-      ((0x00, 0) ∷ (0x00, 0) ∷ (0x00, 0) ∷ (0x05, 0) ∷ (0x05, 0) ∷ [])
-      ∷ []
-
 -- Request Two, a hardware digest: reads of 0x248 and 0x24C answer its 64 bits. The digest of a blank HW_CFG is given.
 abbrev pub hardware : ℕ → Case
 hardware digest =
     case (PowerUp ∷ Digest 0x200 ∷ Read 0x247 ∷ Read 0x248 ∷ Read 0x24C ∷ [])
     ((0x00, 0) ∷ (0x00, digest) ∷ (0x00, 0) ∷ (0x00, digest) ∷ (0x00, digest) ∷ [])
-
--- Request Three, no second burn, in the granule of 4 bytes at s.
-module _ (s : ℕ) where
-  abbrev pub secondBurn : List Case
-  secondBurn =
-      -- The same value again, one that clears no bit, and zero: 4, and no cell changes; nor after a power-up.
-      record {
-        cells = blank;
-        commands = PowerUp ∷ Write s 0x0F ∷ Write s 0x0F ∷ Write s 0xFF ∷ Write s 0 ∷ PowerUp ∷ Write s 0xFF ∷ [];
-        expected = (0x00, 0) ∷ (0x00, 0) ∷ (0x04, s / 2) ∷ (0x04, s / 2) ∷ (0x04, s / 2) ∷ (0x00, 0) ∷ (0x04, s / 2) ∷ [];
-        left = some (holding (s / 2) (0x0F ∷ []));
-      }
-      -- The first word is blank, and does not take a value either; the second is named (request Five). The next granule takes one.
-      ∷ case (PowerUp ∷ Write s 0x10000 ∷ Write s 0x10001 ∷ Write (s + 4) 1 ∷ []) ((0x00, 0) ∷ (0x00, 0) ∷ (0x04, s / 2 + 1) ∷ (0x00, 0) ∷ [])
-      -- A zero in a blank granule answers 0 and changes nothing, so that a value can follow.
-      ∷ record { cells = blank; commands = PowerUp ∷ Write s 0 ∷ Write s 0 ∷ []; expected = (0x00, 0) ∷ (0x00, 0) ∷ (0x00, 0) ∷ []; left = some blank }
-      ∷ case (PowerUp ∷ Write s 0 ∷ Write s 5 ∷ Read s ∷ []) ((0x00, 0) ∷ (0x00, 0) ∷ (0x00, 0) ∷ (0x00, 5) ∷ [])
-      ∷ []
-
--- Request Five, which word, in the granule of 8 bytes at s.
-module _ (s : ℕ) where
-  -- with these words stored there, writes are refused at the i-th, counted over the whole array, and no cell changes
-  abbrev pub names : List ℕ → ℕ → Case
-  names ws i = record {
-    cells = holding (s / 2) ws;
-    commands = PowerUp ∷ Write s number ∷ Write (s + 7) 0 ∷ [];
-    expected = (0x00, 0) ∷ (0x04, s / 2 + i) ∷ (0x04, s / 2 + i) ∷ [];
-    left = some (holding (s / 2) ws);
-  }
-
-  abbrev pub whichWord : List Case
-  whichWord = names (5 ∷ 0 ∷ 0 ∷ 7 ∷ []) 0 ∷ names (0 ∷ 5 ∷ 0 ∷ 7 ∷ []) 1 ∷ names (0 ∷ 0 ∷ 5 ∷ 7 ∷ []) 2 ∷ names (0 ∷ 0 ∷ 0 ∷ 7 ∷ []) 3 ∷ []
 
 -- Request Five: "A locked partition still answers 5 with value 0 first", here OWNER_SW_CFG.
 abbrev pub lockedFirst : Case
@@ -162,33 +72,16 @@ lockedFirst =
 
 unfoldable pub table : ℕ → List Case
 table digest =
-    paper ++ bothSides 0x000 ++ bothSides 0x100 ++ (hardware digest ∷ []) ++ secondBurn 0x000 ++ secondBurn 0x200
-    ++ whichWord 0x250 ++ whichWord 0x318 ++ (lockedFirst ∷ [])
+    paper ++ bothSides 448 0x000 ++ bothSides 448 0x100 ++ (hardware digest ∷ []) ++ secondBurn 448 0x000 ++ secondBurn 448 0x200
+    ++ whichWord 448 0x250 ++ whichWord 448 0x318 ++ (lockedFirst ∷ [])
 
 module _ (prims : Primitives) (keys : ℕ → ℕ) where
-  -- any keys and digest constants; each C and A is 1, each D and B 3; then the hash of the RAW_UNLOCK token
-  abbrev pub constants : List ℕ
-  constants = listed keys 0 36 ++ replicate 24 1 ++ replicate 24 3 ++ replicate 20 1 ++ replicate 20 3 ++ wordsOf 8 (prims .hash 7)
-
-  -- a chip with these cells, switched off
   abbrev pub chip : List ℕ → Machine
-  chip cells = record { lent = record { cells = cells; copy = replicate 448 0; constants = constants }; session = freshSession }
+  chip = chipOf prims keys 448
 
-  abbrev pub said : Answer → ℕ × ℕ
-  said answer = (codeOf answer, valueOf answer)
-
-  abbrev pub leaves : Option (List ℕ) → List ℕ → Type 0
-  leaves none cells = Unit {0}
-  leaves (some left) cells = cells ≡ left
-
-  -- every case of a table holds
   abbrev pub Hold : List Case → Type 0
-  Hold [] = Unit {0}
-  Hold (c ∷ cs) =
-      ((map said (answers prims map1 (c .commands) (chip (c .cells))) ≡ c .expected)
-      × leaves (c .left) (after prims map1 (c .commands) (chip (c .cells)) .lent .cells))
-      × Hold cs
+  Hold = HoldOn prims keys map1 448
 
   -- the digest of a blank HW_CFG, 36 words
   abbrev pub blankDigest : ℕ
-  blankDigest = prims .digest (digestStart constants) (digestFinal constants) (replicate 36 0)
+  blankDigest = prims .digest (digestStart (constants prims keys)) (digestFinal (constants prims keys)) (replicate 36 0)

@@ -118,7 +118,7 @@ module _ (prims : Primitives) (map : Map) (m : Machine) where
       if leb (limit map) a then refuse Denied
       else if not (rightsOf (p .kind) .direct) then refuse Denied
       else if inDigest p a then say (Done (granule p (m .lent .cells) a)) stay
-      else if readLocked session (numberAt map a) then refuse Denied
+      else if rightsOf (p .kind) .lockable && readLocked session (numberAt map a) then refuse Denied
       else if rightsOf (p .kind) .scrambled && sensedLocked session (numberAt map a) then refuse Denied
       else say (Done (unscrambled prims constants p (granule p (m .lent .cells) a))) stay
 

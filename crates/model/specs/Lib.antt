@@ -9,4 +9,7 @@ pub mod Terms
 pub mod Refusals
 pub mod Demand3
 pub mod Beyond
+pub mod OldRule
+pub mod CaseTables
 pub mod Cases
+pub mod CasesOfMap2

@@ -27,7 +27,7 @@ use Rattle.model.specs.Commands.{granule, storedDigest, computedDigest, 
 unfoldable pub sensedDigest : List ℕ → Partition → ℕ
 sensedDigest cells p = if rightsOf (p .kind) .direct then storedDigest p cells else 0
 
--- by the partitions' numbers, as many as the record has room for
+-- by the numbers of the partitions, as many as the record has
 unfoldable pub digests : List ℕ → Map → List ℕ
 digests cells map = listed (λ n. sensedDigest cells (partition map n)) 0 10
 

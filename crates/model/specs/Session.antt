@@ -1,5 +1,5 @@
--- The session record: "phase, sensed digests, two read locks, state number, stroke count". A map has at most eleven partitions and the last has no digest
--- (request Six): there is room for ten sensed digests and ten read locks, by the number of the partition.
+-- The session record: "phase, sensed digests, two read locks, state number, stroke count". A fit map has at most eleven partitions, and the last has neither a
+-- digest nor a read lock (request Six): whatever the map, the record has ten sensed digests and ten read locks, by the number of the partition.
 use Prim.Native.Nat.{ℕ}
 use mathlib.Core.Bool.{Bool, true, false, not}
 use mathlib.Core.List.{List}
@@ -43,7 +43,7 @@ sensedAt s number = getD (s .sensed) number 0
 unfoldable pub sensedLocked : Session → ℕ → Bool
 sensedLocked s number = not (eqb (sensedAt s number) 0)
 
--- whether a partition is read-locked; only those whose kind has a read lock can be
+-- the read lock of a partition by its number; it counts only where the partition's kind has a read lock (`readAct`)
 unfoldable pub readLocked : Session → ℕ → Bool
 readLocked s number = getD (s .locks) number false
 

@@ -18,8 +18,8 @@ pub enum Phase {
     Dead(Reason),
 }
 
-// How many sensed digests and read locks the record has room for: one for each partition of a fit map but the last, by its number.
-pub const ROOM: usize = 10;
+// How many sensed digests, and how many read locks, a record has: by the number of the partition, for all partitions of a fit map but the last.
+pub const DIGESTS: usize = 10;
 
 // The session record: phase, sensed digests, read locks, life cycle state and stroke count.
 pub struct Session {
@@ -78,18 +78,22 @@ impl Session {
         }
     }
 
-    // The sensed digest of a partition.
+    // The sensed digest of a partition; LIFE_CYCLE has none, and so 0.
     pub fn sensed_at(self, number: usize) -> u64
         ensures { λ r. ⌜ r ≡ sensedAt self number ⌝ }
     {
-        if number < ROOM { self.sensed[number] } else { 0 }
+        if number < DIGESTS {
+            self.sensed[number]
+        } else {
+            0
+        }
     }
 
-    // Whether a partition is read-locked.
+    // The read lock of a partition; it counts where the partition's kind has one.
     pub fn read_locked(self, number: usize) -> bool
         ensures { λ r. ⌜ r ≡ readLocked self number ⌝ }
     {
-        if number < ROOM {
+        if number < DIGESTS {
             self.locks[number]
         } else {
             false

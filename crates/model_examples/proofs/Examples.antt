@@ -25,7 +25,8 @@ use Rattle.words.specs.declared.Rule.the-variants.{KeepBits}
 use Rattle.model.specs.Commands.{directRule, granule, storedDigest}
 use Rattle.model.specs.PowerUp.{lifeCycleIn}
 use Rattle.model.specs.Step.{after, answers, machineAfter, answerTo}
-use Rattle.model.specs.Cases.{blank, number, table, Hold, blankDigest}
+use Rattle.model.specs.CaseTables.{number}
+use Rattle.model.specs.Cases.{blank, table, Hold, blankDigest}
 use Rattle.model.specs.Terms.{Right, Cipher, Digested, storedWords, Lasts, Spared, usedValue, Allowed, Matched, HiddenWord, Alike}
 use Rattle.model.specs.Demand3.{Demand3, Ready}
 use Rattle.model.specs.Session.{readLocked}
@@ -36,7 +37,7 @@ use Rattle.model.proofs.Cases.{cases}
 use Rattle.model.proofs.Theorems.{refusals, demand3, beyond}
 use Rattle.model.proofs.Strokes.{rising}
 
-toy-cipher : Cipher toy
+pub toy-cipher : Cipher toy
 toy-cipher = record { fits = λ key block k b. xor-lt 64 block 1 b (lit< tt); back = λ key block k b. xor-xor block 1 }
 
 abbrev toy-demand3 : Demand3 toy map1

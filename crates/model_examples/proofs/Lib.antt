@@ -1,1 +1,3 @@
+pub mod CasesOfMap2
 pub mod Examples
+pub mod ExamplesOfMap2

@@ -70,6 +70,17 @@ life-cycle-direct Secret1 = refl
 life-cycle-direct Secret2 = refl
 life-cycle-direct LifeCycle = refl
 
+-- AUTH_STATE is the one kind whose data keep the old rule of programming
+pub additive-kind : (k : Kind) → rightsOf k .additive ≡ true → k ≡ AuthState
+unfolding rightsOf
+additive-kind Software e = absurd (true-not-false e refl)
+additive-kind AuthState e = refl
+additive-kind HwCfg e = absurd (true-not-false e refl)
+additive-kind Secret0 e = absurd (true-not-false e refl)
+additive-kind Secret1 e = absurd (true-not-false e refl)
+additive-kind Secret2 e = absurd (true-not-false e refl)
+additive-kind LifeCycle e = absurd (true-not-false e refl)
+
 pub additive-not-hardware : (k : Kind) → rightsOf k .additive ≡ true → rightsOf k .hardware ≡ false
 unfolding rightsOf
 additive-not-hardware k e = not-true _ (granted-with (λ k. rightsOf k .additive) (λ k. not (rightsOf k .hardware)) (tt, tt, tt, tt, tt, tt, tt) k e)

@@ -2,3 +2,4 @@ pub mod KindRights
 pub mod Map
 pub mod Granules
 pub mod Maps
+pub mod Unfit

@@ -269,7 +269,8 @@ pub fn number_at(address: usize) -> usize
         VendorTest::START..VendorTest::END => VendorTest::NUMBER,
         CreatorSwCfg::START..CreatorSwCfg::END => CreatorSwCfg::NUMBER,
         OwnerSwCfg::START..OwnerSwCfg::END => OwnerSwCfg::NUMBER,
-        RotCreatorAuthCodesign::START..RotCreatorAuthCodesign::END => RotCreatorAuthCodesign::NUMBER,
+        RotCreatorAuthCodesign::START..RotCreatorAuthCodesign::END =>
+            RotCreatorAuthCodesign::NUMBER,
         RotCreatorAuthState::START..RotCreatorAuthState::END => RotCreatorAuthState::NUMBER,
         HwCfg0::START..HwCfg0::END => HwCfg0::NUMBER,
         HwCfg1::START..HwCfg1::END => HwCfg1::NUMBER,

@@ -2,10 +2,10 @@
 use chip::Judged;
 use life_cycle::LifeCycle;
 use model::Answer;
+use model::DIGESTS;
 use model::Outcome;
 use model::Phase;
 use model::Reason;
-use model::ROOM;
 use model::Session;
 use partitions::MapName;
 use partitions::Partition;
@@ -91,7 +91,7 @@ fn stored_digests(cells: &[u16], map: MapName) -> [u64; 10]
 {
     let mut digests = [0u64; 10];
     let mut number = 0;
-    while number < ROOM {
+    while number < DIGESTS {
         digests[number] = sensed_digest(cells, map.partition_of(number));
         number += 1;
     }

@@ -1,8 +1,8 @@
 // A rehearsal in turns: each reads the next record of a script, executes it and makes its line. And the files of words.
 
 use model::Session;
-use partitions::map2;
 use partitions::MapName;
+use partitions::map2;
 use script::Reading;
 use script::Refusal;
 ghost use mathlib.Core.Path.{_≡_};

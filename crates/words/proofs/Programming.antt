@@ -1,5 +1,5 @@
 -- Laws of programming, by any rule of refusal. The idea: the answer goes word by word from the lowest, so each law is an induction on the value.
-use mathlib.Core.Path.{_≡_, refl, sym, ap₂, _∙_}
+use mathlib.Core.Path.{_≡_, refl, sym, ap, ap₂, _∙_}
 use mathlib.Core.Bool.{true, false}
 use mathlib.Core.List.{List, [], _∷_, _++_}
 use Prim.Native.Nat.{ℕ, suc, _+_, _-_, _≤_, _<_}
@@ -13,6 +13,7 @@ use Rattle.basics.specs.Choice.{if_then_else_}
 use Rattle.basics.specs.Range.{listed}
 use Rattle.basics.specs.Digits.{bit}
 use Rattle.basics.proofs.Choice.{by-cases, true-not-false, if-true, if-false}
+use Rattle.basics.proofs.Range.{length-listed, listed-from}
 use Rattle.words.specs.declared.Rule.{Rule}
 use Rattle.words.specs.declared.Rule.the-variants.{KeepBits, BlankOnly}
 use Rattle.words.specs.declared.Programmed.{Programmed}
@@ -36,6 +37,20 @@ kept-refl = record { bits = λ j i h. le-refl _ }
 
 pub kept-trans : {c d e : List ℕ} → Kept c d → Kept d e → Kept c e
 kept-trans f g = record { bits = λ j i h. le-trans (f .bits j i h) (g .bits j i h) }
+
+-- each part keeps its bits too
+pub kept-part : {c d : List ℕ} → Kept c d → (at n : ℕ) → Kept (partAt c at n) (partAt d at n)
+unfolding partAt
+kept-part {c} {d} k at n =
+    record {
+      bits = λ j i h.
+          by-cases (ltb j n)
+          (λ t. rw (listed-from (λ j. getD c j 0) 0 at n j (ltb-true _ _ t), listed-from (λ j. getD d j 0) 0 at n j (ltb-true _ _ t)) (k .bits (at + j) i h))
+          (λ t. rw (
+            List·getD-eq-default (listed (λ j. getD c j 0) at n) 0 {n = j} (rw length-listed (ltb-false _ _ t)),
+            List·getD-eq-default (listed (λ j. getD d j 0) at n) 0 {n = j} (rw length-listed (ltb-false _ _ t)),
+          ) (le-refl _));
+    }
 
 module _ (rule : Rule) where
   -- ---- the answer
@@ -119,6 +134,18 @@ module _ (rule : Rule) where
             refusing = rw (rest-word vs at v i (r .from)) (r .refusing);
             lower = passes-all c vs at v i t (r .lower);
           }
+
+  -- and no other word is named
+  pub lowest-refused : (vs c : List ℕ) (at i : ℕ) → Lowest rule c at vs i → programAnswer rule c at vs ≡ Refused i
+  lowest-refused vs c at i low =
+      by-answer (programAnswer rule c at vs) (λ e. absurd (true-not-false (low .refusing) (done-passed vs c at e i (low .from) (low .to))))
+      (λ k e. e ∙ ap Refused (same k (refused-lowest vs c at k e)))
+    where
+      same : (k : ℕ) → Lowest rule c at vs k → k ≡ i
+      same k r =
+          by-cases (ltb k i) (λ t. absurd (true-not-false (r .refusing) (low .lower k (r .from) (ltb-true _ _ t))))
+          (λ t. by-cases (ltb i k) (λ u. absurd (true-not-false (low .refusing) (r .lower i (low .from) (ltb-true _ _ u))))
+          (λ u. omega (arith, ltb-false k i t, ltb-false i k u)))
 
   -- a refusing cell holds a bit, so it is one of the cells
   pub refused-inside : (c vs : List ℕ) (at i : ℕ) → programAnswer rule c at vs ≡ Refused i → i < length c

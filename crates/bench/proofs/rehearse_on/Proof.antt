@@ -10,16 +10,16 @@ use Rattle.partitions.proofs.Map.{is-fit}
 use Rattle.bench.proofs.rehearse_on.Statement.{statement}
 use Rattle.bench.proofs.rehearse_on.Tie as tie
 
-room : (w : tie.After-words) → w .words .result ≤ length (w .before .copy-buffer .result)
-room w =
+enough : (w : tie.After-words) → w .words .result ≤ length (w .before .copy-buffer .result)
+enough w =
     let o = w .before .before .before .before .before .args in
     omega (arith, w .words .ensures, is-fit _ (maps-fit (o .map)) .short, w .before .copy-buffer .ensures)
 
 array-borrow-prefix-copy : tie.Need-array-borrow-prefix-copy
-array-borrow-prefix-copy c = room (c .before)
+array-borrow-prefix-copy c = enough (c .before)
 
 slice-aggregate-rehearse : tie.Need-slice-aggregate-rehearse
-slice-aggregate-rehearse c = let w = c .before .before in sym (length-take-le _ _ (room w))
+slice-aggregate-rehearse c = let w = c .before .before in sym (length-take-le _ _ (enough w))
 
 pub rehearse-on-spec : {M : Type 1} → statement M
 rehearse-on-spec =

@@ -9,7 +9,7 @@ use Rattle.direct_access.proofs.may_read.Tie as tie
 returns : tie.Need-returns
 unfolding mayRead inDigest sensedLocked
 returns c =
-    let l = c .before .before in
+    let l = c .before .before .before in
     let s = l .before .before in
     rw (← s .before .rights .ensures, ← s .sensed-at .ensures, ← l .read-locked .ensures)
 
