@@ -132,6 +132,8 @@ run("target_21_without_strokes", "0x11 comes before 0x20", UP + move(21) + read(
 run("test_to_rma", "TEST_UNLOCKED0 to RMA needs no token", UP + move(19) + UP, lines((7, 0, 257), (6, 0, 0), (7, 0, 531)), life(1, state(1)))
 run("read_locked_write", "a read lock stops no write, and there is none past 1", UP + lock(1) + write(0x100, 7) + read(0x100) + lock(2) + lock(255),
     lines((7, 0, 0), (5, 0, 0), (2, 0, 0), (1, 5, 0), (5, 5, 0), (5, 5, 0)))
+run("read_lock_until_power_up", "a power-up clears a read lock", UP + write(0, 7) + lock(0) + lock(0) + read(0) + UP + read(0),
+    lines((7, 0, 0), (2, 0, 0), (5, 0, 0), (5, 0, 0), (1, 5, 0), (7, 0, 0), (1, 0, 7)))
 run("too_long_without_files", "a script that is too long comes before the files", UP * 65537, lines((0, 0x14, 0)), None, None)
 
 # ---- targets
