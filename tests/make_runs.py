@@ -22,6 +22,8 @@ import tempfile
 
 sys.dont_write_bytecode = True
 from run_terms import EXAMPLE, GOOD, HASHES, MAP1, MAP2, RUNS, words
+
+# Each adds the runs that it describes to RUNS.
 import runs_of_any_map
 import runs_of_map1
 import runs_of_map2
