@@ -21,6 +21,7 @@ use Rattle.model.proofs.Chips.{two-chips}
 use Rattle.model.proofs.Digests.{whole-digests}
 use Rattle.model.proofs.Strokes.{never-four, courses-run}
 use Rattle.model.proofs.Device.{device-final}
+use Rattle.model.proofs.ReadLocks.{lock-says-nothing}
 use Rattle.model.proofs.Quiet.{after-unsensed}
 
 pub refusals : (prims : Primitives) (map : Map) → Refusals prims map
@@ -55,5 +56,6 @@ beyond prims C map F = record {
   device = device-final prims map F;
   courses = courses-run prims map F;
   tokens = λ m l. transition-shows prims map (after prims map l m);
+  lockless = lock-says-nothing prims map;
   sensing = after-unsensed prims map;
 }

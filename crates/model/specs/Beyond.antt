@@ -22,7 +22,7 @@ use Rattle.model.specs.declared.Answer.the-variants.{Done}
 use Rattle.model.specs.declared.Command.{Command}
 use Rattle.model.specs.declared.Command.the-variants.{Read, Write, FrontRead, Digest, Transition, PowerUp}
 use Rattle.model.specs.Answers.{codeOf, valueOf}
-use Rattle.model.specs.Session.{isReady, sensedLocked}
+use Rattle.model.specs.Session.{isReady, sensedLocked, withLocks}
 use Rattle.model.specs.Lent.{Machine, Primitives, rawUnlockHash}
 use Rattle.model.specs.Commands.{directRule, digestRule, lifeCycleRule, granule, storedDigest, tokenKind, computedDigest, hashesTo, counterAt, storedToken}
 use Rattle.model.specs.PowerUp.{lifeCycleIn}
@@ -159,6 +159,9 @@ module _ (prims : Primitives) (map : Map) where
         × (code ≡ 0x23
         → Asked m₁ target given false
         × (machineAfter prims map (Transition target high low) m₁ .lent .cells ≡ programCells lifeCycleRule (m₁ .lent .cells) (counterAt map) counter))
+    -- a read lock of a partition whose kind has none says nothing: whatever locks the record holds, a read there answers the same
+    pub lockless : (m : Machine) (a : ℕ) → rightsOf (partitionAt map a .kind) .lockable ≡ false → (locks : List Bool)
+        → answerTo prims map (Read a) (record { lent = m .lent; session = withLocks locks (m .session) }) ≡ answerTo prims map (Read a) m
     -- a list without power-up and transition leaves the copy and the sensed digests as they were
     pub sensing : (m : Machine) (l : List Command) → Quiet l
         → (after prims map l m .lent .copy ≡ m .lent .copy) × (after prims map l m .session .sensed ≡ m .session .sensed)

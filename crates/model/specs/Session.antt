@@ -47,9 +47,12 @@ sensedLocked s number = not (eqb (sensedAt s number) 0)
 unfoldable pub readLocked : Session → ℕ → Bool
 readLocked s number = getD (s .locks) number false
 
--- the record with another phase, or with one more read lock
+-- the record with another phase, with other read locks, or with one more
 abbrev pub inPhase : Phase → Session → Session
 inPhase phase s = record { phase = phase; sensed = s .sensed; locks = s .locks; state = s .state; count = s .count }
 
+abbrev pub withLocks : List Bool → Session → Session
+withLocks locks s = record { phase = s .phase; sensed = s .sensed; locks = locks; state = s .state; count = s .count }
+
 abbrev pub withLock : ℕ → Session → Session
-withLock number s = record { phase = s .phase; sensed = s .sensed; locks = set (s .locks) number true; state = s .state; count = s .count }
+withLock number s = withLocks (set (s .locks) number true) s

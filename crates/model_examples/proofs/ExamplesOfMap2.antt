@@ -1,6 +1,6 @@
 -- Computed runs on Map 2, and premises that are met there: AUTH_STATE data and the old rule; tokens, digests and locks at their places in Map 2.
 use mathlib.Core.Path.{_≡_, refl}
-use mathlib.Core.Bool.{true, false}
+use mathlib.Core.Bool.{Bool, true, false}
 use mathlib.Core.List.{List, [], _∷_, _++_}
 use Prim.Native.Nat.{ℕ, zero, suc, _≤_, _<_}
 use native.Mathlib.Omega.{arith}
@@ -178,10 +178,13 @@ digest-unchecked = refl
 
 -- ---- a record whose read locks are all set: that of a partition without a read lock says nothing
 
-all-locked : Machine
-all-locked = record { lent = new .lent; session = record { phase = Ready; sensed = noDigests; locks = replicate 10 true; state = 0; count = 0 } }
+abbrev with-locks : Bool → Machine
+with-locks lock = record { lent = new .lent; session = record { phase = Ready; sensed = noDigests; locks = replicate 10 lock; state = 0; count = 0 } }
 
-locks-that-count : answers toy map2 (Read 0x000 ∷ Read 0x040 ∷ Read 0x140 ∷ Read 0x240 ∷ Read 0x418 ∷ Read 0x440 ∷ Read 0x488 ∷ Read 0x498 ∷ []) all-locked
+locks-that-count : answers toy map2 (Read 0x000 ∷ Read 0x040 ∷ Read 0x140 ∷ Read 0x240 ∷ Read 0x418 ∷ Read 0x440 ∷ Read 0x488 ∷ Read 0x498 ∷ []) (with-locks true)
     ≡ Denied ∷ Denied ∷ Denied ∷ Denied ∷ Denied ∷ Done 0 ∷ Done 0 ∷ Done 1 ∷ []
-unfolding everything map2 all-locked
+unfolding everything map2
 locks-that-count = refl
+
+lock-of-none : answerTo toy map2 (Read 0x440) (with-locks true) ≡ answerTo toy map2 (Read 0x440) (with-locks false)
+lock-of-none = toy-beyond .lockless (with-locks false) 0x440 (unfold everything map2 in refl) (replicate 10 true)

@@ -24,6 +24,9 @@ ghost use Rattle.power_up.specs.Waking.{verdictIn, lentOf, wokenResult, 
 // The value for a life cycle that is not valid.
 const INVALID: u64 = 0xFFFF;
 
+// No partition is read-locked.
+const UNLOCKED: [bool; 10] = [false; 10];
+
 // The digest checks all passed, or the number of the first partition that failed.
 enum Verdict {
     Passed,
@@ -153,7 +156,7 @@ fn dead(copy: &mut [u16], reason: Reason, answer: Answer) -> Outcome
     let session = Session {
         phase: Phase::Dead(reason),
         sensed: [0; 10],
-        locks: [false; 10],
+        locks: UNLOCKED,
         state: 0,
         count: 0,
     };
@@ -184,7 +187,7 @@ fn ready(
     let session = Session {
         phase: Phase::Ready,
         sensed,
-        locks: [false; 10],
+        locks: UNLOCKED,
         state,
         count,
     };

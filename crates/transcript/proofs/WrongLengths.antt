@@ -1,16 +1,16 @@
 -- Files of a wrong length. The idea: every step refuses with 0x10 and leaves the machine, so each line is known from its record, and two such machines print
 -- alike.
-use Prim.Native.Nat.{ℕ, zero, suc, _+_, _/_, _<_}
-use mathlib.Core.Path.{_≡_, refl, ap}
-use mathlib.Core.Bool.{false, not, _&&_}
+use Prim.Native.Nat.{ℕ, zero, suc, _+_, _*_, _/_, _%_, _<_}
+use mathlib.Core.Path.{_≡_, refl, ap, _∙_}
+use mathlib.Core.Bool.{true, false, not, _&&_}
 use mathlib.Core.List.{List, [], _∷_, _++_, append-nil}
 use native.Mathlib.Numerals.{add-one}
 use native.Mathlib.Omega.{arith}
-use lib.Dec.{eqb}
-use lib.ListN.{length}
-use borrow.Author.Tests.{ne-eqb}
+use lib.Dec.{eqb, lit<}
+use lib.ListN.{length, replicate}
+use borrow.Author.Tests.{eq-eqb, ne-eqb, eqb-true}
 use Rattle.basics.specs.Choice.{if_then_else_}
-use Rattle.basics.proofs.Choice.{by-cases, and-false, if-true, if-false}
+use Rattle.basics.proofs.Choice.{and-false, if-true, if-false, if-both}
 use Rattle.partitions.specs.declared.MapName.the-variants.{Map1, Map2}
 use Rattle.partitions.specs.Map.{Map, limit}
 use Rattle.partitions.specs.Map1.{map1}
@@ -28,16 +28,42 @@ use Rattle.script.specs.Lines.{lineOf, endLine}
 use Rattle.script.proofs.Records.{too-long}
 use Rattle.transcript.specs.Files.{pairs, fileWords}
 use Rattle.transcript.specs.Transcript.{Line, refusedKind, linesFrom, mapFor, mapUsed, chipOf, linesOf, printed, transcript}
+use Rattle.transcript.proofs.Files.{pairs-length}
 use Rattle.transcript.specs.WrongLengths.{Wrong, Refusing, refused, unread, Each, none, more, WrongLengths}
 
-images-wrong : (image constants : List ℕ) → (length (fileWords image) ≡ 448 → ⊥) → (length (fileWords image) ≡ 740 → ⊥) → Wrong image constants
-unfolding rightLengths mapFor mapOf limit map1 map2
-images-wrong image constants h k =
-    by-cases (eqb (length image) 1480) (λ t. rw (if-true Map2 Map1 t, ne-eqb _ _ k)) (λ t. rw (if-false Map2 Map1 t, ne-eqb _ _ h))
+-- ---- how many words a file has
 
-constants-wrong : (image constants : List ℕ) → (length (fileWords constants) ≡ 132 → ⊥) → Wrong image constants
+words-from : (bytes : List ℕ) (n : ℕ) → length bytes ≡ 2 * n → length (fileWords bytes) ≡ n
+unfolding fileWords
+words-from bytes n e = rw (if-true (pairs bytes) [] (eq-eqb (length bytes % 2) 0 (omega (arith, e)))) (pairs-length bytes ∙ omega (arith, e))
+
+bytes-from : (bytes : List ℕ) (n : ℕ) → 0 < n → length (fileWords bytes) ≡ n → length bytes ≡ 2 * n
+unfolding fileWords
+bytes-from bytes n some =
+    if-both (λ (ws : List ℕ). length ws ≡ n → length bytes ≡ 2 * n) _ _ _
+    (λ t e. omega (arith, eqb-true (length bytes % 2) 0 t, pairs-length bytes, e)) (λ t e. absurd (omega arith))
+
+-- ---- right and wrong lengths
+
+first-map : (image constants : List ℕ) → length image ≡ 896 → length constants ≡ 264
+    → (mapUsed image ≡ map1) × (rightLengths (mapUsed image) (chipOf image constants .lent) ≡ true)
+unfolding rightLengths mapFor mapOf limit map1
+first-map image constants h k =
+    rw (if-false Map2 Map1 (ne-eqb (length image) 1480 (λ e. omega (arith, h, e))), words-from image 448 h, words-from constants 132 k) (refl, refl)
+
+second-map : (image constants : List ℕ) → length image ≡ 1480 → length constants ≡ 264
+    → (mapUsed image ≡ map2) × (rightLengths (mapUsed image) (chipOf image constants .lent) ≡ true)
+unfolding rightLengths mapFor mapOf limit map2
+second-map image constants h k = rw (if-true Map2 Map1 (eq-eqb (length image) 1480 h), words-from image 740 h, words-from constants 132 k) (refl, refl)
+
+images-wrong : (image constants : List ℕ) → (length image ≡ 896 → ⊥) → (length image ≡ 1480 → ⊥) → Wrong image constants
+unfolding rightLengths mapFor mapOf limit map1
+images-wrong image constants h k =
+    rw (if-false Map2 Map1 (ne-eqb (length image) 1480 k), ne-eqb (length (fileWords image)) 448 (λ e. h (bytes-from image 448 (lit< tt) e)))
+
+constants-wrong : (image constants : List ℕ) → (length constants ≡ 264 → ⊥) → Wrong image constants
 unfolding rightLengths
-constants-wrong image constants h = rw (ne-eqb _ _ h)
+constants-wrong image constants h = rw (ne-eqb (length (fileWords constants)) 132 (λ e. h (bytes-from constants 132 (lit< tt) e)))
     (and-false (eqb (length (chipOf image constants .lent .cells)) (limit (mapUsed image) / 2) && eqb (length (chipOf image constants .lent .copy)) (limit (mapUsed image) / 2)) refl)
 
 step-wrong : (map : Map) (x : Command) (m : Machine) → rightLengths map (m .lent) ≡ false → resultFor map x m ≡ record { machine = m; answer = WrongLength }
@@ -86,6 +112,8 @@ too-long-script script image constants h =
 pub wrong-lengths : WrongLengths
 unfolding linesOf
 wrong-lengths = record {
+  ofMap1 = first-map;
+  ofMap2 = second-map;
   images = images-wrong;
   constants = constants-wrong;
   lines = λ script image constants h. lines-refused (mapUsed image) script (chipOf image constants) h (length script + 1) 0;
@@ -93,6 +121,9 @@ wrong-lengths = record {
   scripts = too-long-script;
 }
 
--- the premise is met: two empty files
+-- premises are met: two empty files, and blank ones of each map
 no-files : Wrong [] []
-no-files = images-wrong [] [] (λ e. unfold fileWords pairs if_then_else_ in omega (arith, e)) (λ e. unfold fileWords pairs if_then_else_ in omega (arith, e))
+no-files = images-wrong [] [] (λ e. omega (arith, e)) (λ e. omega (arith, e))
+
+blank-files : (mapUsed (replicate 896 0) ≡ map1) × (mapUsed (replicate 1480 0) ≡ map2)
+blank-files = (first-map (replicate 896 0) (replicate 264 0) refl refl .0, second-map (replicate 1480 0) (replicate 264 0) refl refl .0)

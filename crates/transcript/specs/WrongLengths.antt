@@ -1,14 +1,16 @@
--- Files of a wrong length, and scripts that are too long: "a wrong length gives 0x10 on each line".
+-- The lengths of files: "the bench takes Map 2 for an image of 1,480 bytes, else Map 1" (request Six), and "a wrong length gives 0x10 on each line". And scripts
+-- that are too long.
 use Prim.Native.Nat.{ℕ, _<_}
 use mathlib.Core.Path.{_≡_}
-use mathlib.Core.Bool.{false}
+use mathlib.Core.Bool.{true, false}
 use mathlib.Core.List.{List, [], _∷_, _++_}
 use lib.ListN.{length}
+use Rattle.partitions.specs.Map1.{map1}
+use Rattle.partitions.specs.Map2.{map2}
 use Rattle.model.specs.Lent.{rightLengths}
 use Rattle.script.specs.declared.Refusal.{Refusal}
 use Rattle.script.specs.Records.{refusalCode}
 use Rattle.script.specs.Lines.{lineOf, endLine}
-use Rattle.transcript.specs.Files.{fileWords}
 use Rattle.transcript.specs.Transcript.{Line, mapUsed, chipOf, linesOf, transcript}
 
 -- these files lend something of a wrong length
@@ -25,9 +27,15 @@ pub data Each (P : Line → Type 0) : List Line → Type 0 where
   more : {l : Line} {ls : List Line} → P l → Each P ls → Each P (l ∷ ls)
 
 pub record WrongLengths : Type 0 where
-  -- a file with any other number of words is of a wrong length
-  pub images : (image constants : List ℕ) → (length (fileWords image) ≡ 448 → ⊥) → (length (fileWords image) ≡ 740 → ⊥) → Wrong image constants
-  pub constants : (image constants : List ℕ) → (length (fileWords constants) ≡ 132 → ⊥) → Wrong image constants
+  -- an image of 896 bytes is one of Map 1, and with constants of 264 bytes all lengths are right
+  pub ofMap1 : (image constants : List ℕ) → length image ≡ 896 → length constants ≡ 264
+      → (mapUsed image ≡ map1) × (rightLengths (mapUsed image) (chipOf image constants .lent) ≡ true)
+  -- one of 1,480 bytes is one of Map 2, likewise
+  pub ofMap2 : (image constants : List ℕ) → length image ≡ 1480 → length constants ≡ 264
+      → (mapUsed image ≡ map2) × (rightLengths (mapUsed image) (chipOf image constants .lent) ≡ true)
+  -- every other file is of a wrong length
+  pub images : (image constants : List ℕ) → (length image ≡ 896 → ⊥) → (length image ≡ 1480 → ⊥) → Wrong image constants
+  pub constants : (image constants : List ℕ) → (length constants ≡ 264 → ⊥) → Wrong image constants
   -- "a wrong length gives 0x10 on each line"
   pub lines : (script image constants : List ℕ) → Wrong image constants → Each Refusing (linesOf script image constants)
   -- what is printed then depends on the script alone: so a file that is longer than what the program reads of it prints what its read start prints
