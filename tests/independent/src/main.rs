@@ -46,7 +46,7 @@ const USAGE: &str = "usage:
   independent bench";
 
 const CASES: u64 = 24_000;
-const RUNS: u64 = 2_400;
+const RUNS: u64 = 2_100;
 const SEED: u64 = 20_260;
 
 fn main() -> ExitCode {

@@ -3,6 +3,7 @@
 use crate::bench;
 use crate::chips;
 use crate::constants::lay_raw_token;
+use crate::map::Map;
 use crate::model::{Chip, Command};
 use crate::random::Random;
 use crate::raw_tokens::RawTokens;
@@ -11,21 +12,24 @@ use crate::walk;
 
 /// One run. A file may be missing.
 pub struct Run {
+    /// The name of the map that it was made for.
+    pub map: &'static str,
     pub script: Vec<u8>,
     pub image: Option<Vec<u8>>,
     pub constants: Option<Vec<u8>>,
 }
 
 impl Run {
-    /// A run of commands on cells.
-    pub fn of(commands: &[Command], cells: &[u16], constants: &[u16]) -> Run {
+    /// A run of commands on a chip.
+    pub fn of(commands: &[Command], chip: &Chip) -> Run {
         Run {
+            map: chip.map.name,
             script: commands
                 .iter()
                 .flat_map(|&command| record(command))
                 .collect(),
-            image: Some(bench::file_of_words(cells)),
-            constants: Some(bench::file_of_words(constants)),
+            image: Some(bench::file_of_words(&chip.cells)),
+            constants: Some(bench::file_of_words(&chip.constants)),
         }
     }
 
@@ -36,25 +40,26 @@ impl Run {
     }
 }
 
-/// A random run.
-pub fn make(random: &mut Random) -> Run {
+/// A random run on a map.
+pub fn make(map: &Map, random: &mut Random) -> Run {
     let mut tokens = RawTokens::new();
     let valid = chips::constants(&mut tokens, random);
-    let cells = chips::image(&valid, &mut tokens, random);
-    let mut constants = match random.below(16) {
-        0 => chips::invalid_constants(&mut tokens, random),
+    let mut chip = chips::image(&Chip::blank(map, &valid), &mut tokens, random);
+    match random.below(16) {
+        0 => chip.constants = chips::invalid_constants(&mut tokens, random),
         // Valid, but not those of the image.
-        1 => chips::constants(&mut tokens, random),
-        _ => valid,
-    };
-    if random.one_in(24) {
-        lay_raw_token(&mut constants, tokens.mistaken(random));
+        1 => chip.constants = chips::constants(&mut tokens, random),
+        _ => {}
     }
-    let mut chip = Chip::new(cells.clone(), constants.clone());
+    if random.one_in(24) {
+        lay_raw_token(&mut chip.constants, tokens.mistaken(random));
+    }
+    let run = Run::of(&[], &chip);
     Run {
         script: script(&mut chip, &mut tokens, random),
-        image: file(bench::file_of_words(&cells), random),
-        constants: file(bench::file_of_words(&constants), random),
+        image: run.image.and_then(|bytes| file(bytes, random)),
+        constants: run.constants.and_then(|bytes| file(bytes, random)),
+        ..run
     }
 }
 
@@ -78,7 +83,7 @@ fn script(chip: &mut Chip, tokens: &mut RawTokens, random: &mut Random) -> Vec<u
         10 if random.one_in(3) => {
             let length =
                 LONGEST + random.choose(&[0, 0, 0, 1, 1, 2, 5000]) - random.choose(&[0, 0, 1]);
-            return filled(records.concat(), length, random);
+            return filled(records.concat(), length, &chip.map, random);
         }
         _ => {}
     }
@@ -108,9 +113,9 @@ fn unknown_kind(random: &mut Random) -> u8 {
 }
 
 /// The script brought to a length with reads, the last bytes as they fall.
-fn filled(mut script: Vec<u8>, length: usize, random: &mut Random) -> Vec<u8> {
+fn filled(mut script: Vec<u8>, length: usize, map: &Map, random: &mut Random) -> Vec<u8> {
     while script.len() < length {
-        script.extend(record(Command::Read(walk::address(random))));
+        script.extend(record(Command::Read(walk::address(map, random))));
     }
     script.truncate(length);
     script
@@ -134,6 +139,7 @@ fn file(mut bytes: Vec<u8>, random: &mut Random) -> Option<Vec<u8>> {
                 2 * right,
                 264,
                 896,
+                1480,
             ];
             bytes.resize(random.choose(&lengths), 0);
             Some(bytes)
@@ -172,23 +178,30 @@ mod tests {
 
     #[test]
     fn runs_bring_out_every_answer() {
-        let mut random = Random::new(31);
-        let mut missing = expected_pairs();
-        for _ in 0..2000 {
-            for line in make(&mut random).printed().lines() {
-                missing.remove(line.get(..5).unwrap_or(line));
+        for map in [Map::one(), Map::two()] {
+            let mut random = Random::new(31);
+            let mut missing = expected_pairs();
+            for _ in 0..2000 {
+                for line in make(&map, &mut random).printed().lines() {
+                    missing.remove(line.get(..5).unwrap_or(line));
+                }
+                if missing.is_empty() {
+                    break;
+                }
             }
-            if missing.is_empty() {
-                return;
-            }
+            assert!(
+                missing.is_empty(),
+                "never printed on {}: {missing:?}",
+                map.name
+            );
         }
-        panic!("never printed: {missing:?}");
     }
 
     /// The transitions of a run that ask for a token: the token and the code.
     fn judged(run: &Run) -> Vec<(Token, u8)> {
         let words = |file: &Option<Vec<u8>>| bench::words_of_file(file.as_deref().unwrap_or(&[]));
-        let mut chip = Chip::new(words(&run.image), words(&run.constants));
+        let map = Map::of_image(run.image.as_deref().unwrap_or(&[]).len());
+        let mut chip = Chip::new(&map, words(&run.image), words(&run.constants));
         let mut reader = Reader::new(&run.script);
         let mut judged = Vec::new();
         while let Next::Record { command, .. } = reader.next() {
@@ -204,18 +217,20 @@ mod tests {
     /// In 800 runs about 80, 13, 27 and 10 right ones are usual.
     #[test]
     fn each_token_is_often_right_and_sometimes_wrong() {
-        let mut random = Random::new(32);
-        let runs = (0..800).map(|_| make(&mut random));
-        let judged: Vec<(Token, u8)> = runs.flat_map(|run| judged(&run)).collect();
-        for (asked, least) in [
-            (Token::Raw, 50),
-            (Token::TestUnlock, 6),
-            (Token::TestExit, 14),
-            (Token::Rma, 4),
-        ] {
-            let times = |code: u8| judged.iter().filter(|seen| **seen == (asked, code)).count();
-            assert!(times(0) >= least, "{asked:?} {}", times(0));
-            assert!(times(0x23) >= 1, "{asked:?} {}", times(0x23));
+        for map in [Map::one(), Map::two()] {
+            let mut random = Random::new(32);
+            let runs = (0..800).map(|_| make(&map, &mut random));
+            let judged: Vec<(Token, u8)> = runs.flat_map(|run| judged(&run)).collect();
+            for (asked, least) in [
+                (Token::Raw, 50),
+                (Token::TestUnlock, 6),
+                (Token::TestExit, 14),
+                (Token::Rma, 4),
+            ] {
+                let times = |code: u8| judged.iter().filter(|seen| **seen == (asked, code)).count();
+                assert!(times(0) >= least, "{} {asked:?} {}", map.name, times(0));
+                assert!(times(0x23) >= 1, "{} {asked:?} {}", map.name, times(0x23));
+            }
         }
     }
 }
