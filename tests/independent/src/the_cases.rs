@@ -1,11 +1,12 @@
 //! The 14 cases of the paper, those of requests Two to Five, and rules about
 //! the record beside them.
 
+use crate::case_steps::{expect, in_state, powered};
 use crate::chips;
 use crate::constants::{example, lay_raw_token, EXAMPLE_HASH, EXAMPLE_TOKEN};
-use crate::life_cycle::{counter_words, state_words};
+use crate::life_cycle::counter_words;
 use crate::map::Map;
-use crate::model::{Answer, Chip, Command, Phase, Session};
+use crate::model::{Chip, Command, Phase, Session};
 use crate::token::hash;
 use Command::{Digest, FrontRead, PowerUp, Read, ReadLock, Transition, Write};
 
@@ -20,32 +21,9 @@ fn ready() -> Chip {
     powered(blank())
 }
 
-fn powered(mut chip: Chip) -> Chip {
-    assert_eq!(chip.execute(PowerUp).code, 0);
-    chip
-}
-
 /// A chip with a state and a count in its cells.
 fn at(state: u8, count: u8) -> Chip {
-    let mut chip = blank();
-    let words = [
-        counter_words(&example(), count),
-        state_words(&example(), state),
-    ]
-    .concat();
-    chip.cells[COUNTERS_AT..].copy_from_slice(&words);
-    chip
-}
-
-/// Executes the commands; each must give its code and value.
-fn expect(chip: &mut Chip, steps: &[(Command, u8, u64)]) {
-    for &(command, code, value) in steps {
-        assert_eq!(
-            chip.execute(command),
-            Answer { code, value },
-            "{command:x?}"
-        );
-    }
+    in_state(&Map::one(), &example(), state, count)
 }
 
 #[test]
