@@ -197,21 +197,61 @@ mod tests {
         }
     }
 
+    /// Carries out a run; `seen` is given the chip before each command, the
+    /// command and the code that it answers.
+    fn replay(run: &Run, mut seen: impl FnMut(&Chip, Command, u8)) {
+        let bytes = |file: &Option<Vec<u8>>| file.clone().unwrap_or_default();
+        let (image, constants) = (bytes(&run.image), bytes(&run.constants));
+        let words = bench::words_of_file;
+        let mut chip = Chip::new(
+            &Map::of_image(image.len()),
+            words(&image),
+            words(&constants),
+        );
+        let mut reader = Reader::new(&run.script);
+        while let Next::Record { command, .. } = reader.next() {
+            let before = chip.clone();
+            let code = chip.execute(command).code;
+            seen(&before, command, code);
+        }
+    }
+
     /// The transitions of a run that ask for a token: the token and the code.
     fn judged(run: &Run) -> Vec<(Token, u8)> {
-        let words = |file: &Option<Vec<u8>>| bench::words_of_file(file.as_deref().unwrap_or(&[]));
-        let map = Map::of_image(run.image.as_deref().unwrap_or(&[]).len());
-        let mut chip = Chip::new(&map, words(&run.image), words(&run.constants));
-        let mut reader = Reader::new(&run.script);
         let mut judged = Vec::new();
-        while let Next::Record { command, .. } = reader.next() {
-            let state = chip.session.state;
-            let code = chip.execute(command).code;
+        replay(run, |chip, command, code| {
             if let (Command::Transition(target, _), 0 | 0x23) = (command, code) {
-                judged.extend(token_between(state, target).map(|asked| (asked, code)));
+                let asked = token_between(chip.session.state, target);
+                judged.extend(asked.map(|asked| (asked, code)));
             }
-        }
+        });
         judged
+    }
+
+    /// The codes of writes to key states that hold something.
+    fn key_state_writes(run: &Run) -> Vec<u8> {
+        let mut codes = Vec::new();
+        replay(run, |chip, command, code| {
+            if let (Command::Write(address, _), 0 | 4) = (command, code) {
+                let partition = chip.map.partitions[chip.map.find(address).unwrap()];
+                let held = &chip.cells[partition.granule_words(address)];
+                if partition.takes_more_bits(address) && held.iter().any(|word| *word != 0) {
+                    codes.push(code);
+                }
+            }
+        });
+        codes
+    }
+
+    #[test]
+    fn bits_are_often_added_to_key_states_and_often_refused() {
+        let (map, mut random) = (Map::two(), Random::new(33));
+        let runs = (0..600).map(|_| make(&map, &mut random));
+        let codes: Vec<u8> = runs.flat_map(|run| key_state_writes(&run)).collect();
+        for code in [0, 4] {
+            let times = codes.iter().filter(|seen| **seen == code).count();
+            assert!(times > 20, "{code} {times}");
+        }
     }
 
     /// In 800 runs about 80, 13, 27 and 10 right ones are usual.

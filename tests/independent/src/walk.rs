@@ -39,7 +39,7 @@ fn command(chip: &Chip, tokens: &mut RawTokens, random: &mut Random) -> Command 
     }
     match random.below(24) {
         0..=5 => Command::Read(address(&chip.map, random)),
-        6..=12 => write(chip, address(&chip.map, random), tokens, random),
+        6..=12 => write(chip, write_address(&chip.map, random), tokens, random),
         13..=14 => Command::FrontRead(front_address(&chip.map, random)),
         15..=17 => Command::Digest(digest_address(&chip.map, random)),
         18 => Command::ReadLock(lock_number(&chip.map, random)),
@@ -114,6 +114,18 @@ pub fn address(map: &Map, random: &mut Random) -> u32 {
         // Right only if the high bits are lost.
         10 => random.below(u64::from(end)) as u32 | random.choose(&[1 << 11, 1 << 16, 1 << 31]),
         _ => random.choose(&far),
+    }
+}
+
+/// An address, now and then of a key state: these have a rule of their own.
+fn write_address(map: &Map, random: &mut Random) -> u32 {
+    let mut partitions = map.partitions.iter();
+    match partitions.find(|partition| partition.kind == Kind::KeyState) {
+        Some(states) if random.one_in(4) => {
+            let bytes = states.digest - states.start;
+            states.start + random.below(u64::from(bytes)) as u32
+        }
+        _ => address(map, random),
     }
 }
 
@@ -267,20 +279,46 @@ mod tests {
     }
 
     #[test]
-    fn front_reads_and_read_locks_hit_every_number() {
-        for (map, reached, locks) in [
-            (Map::one(), 0x1f8..0x254, 0..=7),
-            (Map::two(), 0x438..0x49c, 0..=5),
-        ] {
+    fn front_reads_hit_every_address_that_they_reach() {
+        for (map, reached) in [(Map::one(), 0x1f8..0x254), (Map::two(), 0x438..0x49c)] {
             let mut random = Random::new(22);
-            let fronts: Vec<u32> = (0..5_000)
-                .map(|_| front_address(&map, &mut random))
-                .collect();
-            assert!(reached.clone().all(|address| fronts.contains(&address)));
-            let numbers: Vec<u8> = (0..500).map(|_| lock_number(&map, &mut random)).collect();
-            let mut wanted =
-                locks.filter(|number| map.name == "Map 2" || [0, 1, 2, 5, 6, 7].contains(number));
-            assert!(wanted.all(|number| numbers.contains(&number)));
+            let draw = |_| front_address(&map, &mut random);
+            let seen: Vec<u32> = (0..5_000).map(draw).collect();
+            for address in reached {
+                assert!(seen.contains(&address), "{} {address:x}", map.name);
+            }
+        }
+    }
+
+    #[test]
+    fn read_locks_hit_every_number_that_counts() {
+        for (map, numbers) in [
+            (Map::one(), &[0, 1, 2, 5, 6, 7, 255][..]),
+            (Map::two(), &[0, 1, 2, 3, 4, 5, 9, 10, 11, 255]),
+        ] {
+            let mut random = Random::new(23);
+            let seen: Vec<u8> = (0..500).map(|_| lock_number(&map, &mut random)).collect();
+            for number in numbers {
+                assert!(seen.contains(number), "{} {number}", map.name);
+            }
+        }
+    }
+
+    /// A token's half is stored in its own place, in either map.
+    #[test]
+    fn halves_of_one_hash_are_written_side_by_side() {
+        for map in [Map::one(), Map::two()] {
+            let (mut tokens, mut random) = (RawTokens::new(), Random::new(24));
+            let constants = crate::chips::constants(&mut tokens, &mut random);
+            for (_, first) in stored_tokens(&map) {
+                let mut chip = Chip::blank(&map, &constants);
+                chip.execute(Command::PowerUp);
+                let hash = tokens.hashed(&mut random);
+                chip.execute(Command::Write(first, half_of(hash, false)));
+                let mut draw = || token_half(&chip, first + 8, &mut tokens, &mut random);
+                let half = (0..20).find_map(|_| draw());
+                assert_eq!(half, Some(half_of(hash, true)), "{} {first:x}", map.name);
+            }
         }
     }
 }

@@ -138,28 +138,22 @@ mod tests {
             .count()
     }
 
+    /// Lines after the last power-up that begin so.
+    fn count_at_last(run: &Run, beginning: &str) -> usize {
+        let printed = run.printed();
+        let last = printed.rfind("\n07").expect("a second power-up");
+        count(&printed[last..], beginning)
+    }
+
     #[test]
     fn writes_are_refused_in_digests_and_the_life_cycle() {
         // Software digests that the first write has locked, hardware digests,
         // and the first 8 addresses of LIFE_CYCLE.
-        for (blank, software, hardware) in blanks(43)
-            .iter()
-            .zip([(2, 4), (5, 5)])
-            .map(|(b, (s, h))| (b, s, h))
-        {
+        for (blank, digests) in blanks(43).iter().zip([2 + 4, 5 + 5]) {
             let runs = digest_edges(blank);
             assert_eq!(runs.len(), 24 * 3);
-            let last = |run: &Run| {
-                let printed = run.printed();
-                let lines: Vec<&str> = printed.lines().collect();
-                let after = lines
-                    .iter()
-                    .rposition(|line| line.starts_with("07"))
-                    .unwrap();
-                lines[after..].join("\n") + "\n"
-            };
-            let refused: usize = runs.iter().map(|run| count(&last(run), "02 05")).sum();
-            assert_eq!(refused, (8 * software + 8 * hardware + 8) * 3);
+            let refused: usize = runs.iter().map(|run| count_at_last(run, "02 05")).sum();
+            assert_eq!(refused, (8 * digests + 8) * 3);
         }
     }
 
