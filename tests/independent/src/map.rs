@@ -305,7 +305,7 @@ mod tests {
     #[test]
     fn an_image_of_1480_bytes_has_map_2() {
         assert_eq!(Map::of_image(1480), Map::two());
-        for bytes in [0, 1, 896, 740, 1478, 1479, 1481, 1482, 2960, 1480 << 16] {
+        for bytes in [0, 1, 896, 740, 1478, 1479, 1481, 1482, 2960, 1480 + 65_536] {
             assert_eq!(Map::of_image(bytes), Map::one(), "{bytes}");
         }
     }

@@ -34,9 +34,10 @@ fn cleared(held: [u16; 2], value: [u16; 2]) -> Option<u64> {
 #[test]
 fn key_states_take_more_bits_and_lose_none() {
     let pairs = || WORDS.iter().flat_map(|&low| WORDS.map(|high| [low, high]));
+    let ready = ready();
     for (address, first) in [(0x418, 0x20c), (0x41c, 0x20e), (0x434, 0x21a)] {
         for (held, value) in pairs().flat_map(|held| pairs().map(move |value| (held, value))) {
-            let mut chip = ready();
+            let mut chip = ready.clone();
             chip.cells[first..first + 2].copy_from_slice(&held);
             let mut left = chip.cells.clone();
             let data = u64::from(value[1]) << 16 | u64::from(value[0]);
