@@ -56,12 +56,7 @@ fn case_02_blank_reads() {
 
 #[test]
 fn case_03_low_address_bits() {
-    for (start, word) in [
-        (0x000, 0),
-        (0x240, 0x120),
-        (0x414 - 8, 0x206),
-        (0x418, 0x20c),
-    ] {
+    for (start, word) in [(0x000, 0), (0x240, 0x120), (0x40c, 0x206), (0x418, 0x20c)] {
         let mut chip = ready();
         let steps = [
             (Write(start + 3, 0xdead_beef_1234_5678), 0, 0),
@@ -74,12 +69,7 @@ fn case_03_low_address_bits() {
 
 #[test]
 fn case_04_no_second_burn() {
-    for (address, word) in [
-        (0x000, 0),
-        (0x040, 0x20),
-        (0x40c, 0x206),
-        (0x484 - 8, 0x23e),
-    ] {
+    for (address, word) in [(0x000, 0), (0x040, 0x20), (0x40c, 0x206), (0x47c, 0x23e)] {
         let steps = [
             (Write(address, 0x0f), 0, 0),
             (Write(address, 0xf0), 4, word),

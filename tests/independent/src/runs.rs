@@ -168,7 +168,7 @@ fn show(
         (folder.join("script.bin"), &run.script),
         (folder.join("expected.txt"), expected.as_bytes()),
     ];
-    println!("run {number}, kept in {}", folder.display());
+    println!("run {number} for {}, kept in {}", run.map, folder.display());
     for fault in faults {
         println!("  {fault}");
     }

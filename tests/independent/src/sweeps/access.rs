@@ -57,7 +57,7 @@ fn digest_edges(blank: &Chip) -> Vec<Run> {
             for address in addresses.clone() {
                 commands.push(Write(address, data));
                 commands.extend((address - 8..address + 8).map(Read));
-                commands.push(Write(address ^ 4, data << 32 | data >> 32));
+                commands.push(Write(address ^ 4, data.rotate_left(32)));
                 after.extend([Read(address), Write(address, u64::MAX)]);
             }
             runs.push(Run::of(&[commands, after].concat(), blank));
@@ -111,7 +111,7 @@ fn sensed_data(blank: &Chip) -> Run {
     let granules: Vec<u32> = reached.flat_map(|partition| partition.granules()).collect();
     let mut commands = vec![PowerUp];
     for (i, &address) in granules.iter().enumerate() {
-        let data = 0x0102_0304_0000_0000 | (i as u64 + 1) << 24 | 1 + i as u64;
+        let data = 0x0102_0304_0000_0000 + 0x0100_0001 * (i as u64 + 1);
         commands.extend([Write(address, data), FrontRead(address), Read(address)]);
     }
     commands.push(PowerUp);

@@ -68,7 +68,7 @@ fn second_digests(blank: &Chip) -> Vec<Run> {
     hardware.map(again).collect()
 }
 
-/// What the first granule of a pair of words holds before it is written.
+/// What the two words of a granule hold before it is written.
 const HELD: [[u16; 2]; 6] = [
     [0, 0],
     [0x8001, 0],
