@@ -1,5 +1,6 @@
 //! What the bench program prints for a script, an image and constants.
 
+use crate::map::Map;
 use crate::model::{Answer, Chip};
 use crate::script::{Next, Reader};
 use std::fs;
@@ -8,9 +9,11 @@ use std::io::{self, Read, Write};
 pub const IMAGE: &str = "image.bin";
 pub const CONSTANTS: &str = "constants.bin";
 
-/// Everything printed, the end line included.
+/// Everything printed, the end line included. The image's length decides the
+/// map.
 pub fn printed(script: &[u8], image: &[u8], constants: &[u8]) -> String {
-    let mut chip = Chip::new(words_of_file(image), words_of_file(constants));
+    let map = Map::of_image(image.len());
+    let mut chip = Chip::new(&map, words_of_file(image), words_of_file(constants));
     let mut reader = Reader::new(script);
     let mut lines = Vec::new();
     loop {

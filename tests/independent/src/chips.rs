@@ -3,11 +3,11 @@
 
 use crate::constants::{self, A, B, C, CONSTANTS, COUNTERS, D, FINAL_KEY, STATES};
 use crate::life_cycle::{counter_words, state_words};
-use crate::map::{CELLS, HW_CFG, LIFE_CYCLE, MAP, SECRET0, SECRET2};
+use crate::map::{Kind, Partition};
 use crate::model::{Chip, Command};
 use crate::random::Random;
 use crate::raw_tokens::{half_of, RawTokens};
-use crate::transition::STORED_TOKENS;
+use crate::transition::stored_tokens;
 use crate::walk;
 
 /// Random valid constants.
@@ -69,41 +69,43 @@ fn random_below(random: &mut Random, bound: usize) -> usize {
     random.below(bound as u64) as usize
 }
 
-/// A random image for the constants.
-pub fn image(constants: &[u16], tokens: &mut RawTokens, random: &mut Random) -> Vec<u16> {
-    let mut cells = match random.below(16) {
-        0..=2 => vec![0; CELLS],
-        3..=9 => provisioned(constants, 2, tokens, random),
-        10..=12 => provisioned(constants, 64, tokens, random),
-        13..=14 => raw_noise(random),
-        _ if random.one_in(4) => vec![0xffff; CELLS],
-        _ => vec![0; CELLS],
+/// A random chip with the map and the constants of a blank one.
+pub fn image(blank: &Chip, tokens: &mut RawTokens, random: &mut Random) -> Chip {
+    let cells = blank.map.cells();
+    let mut chip = match random.below(16) {
+        0..=2 => blank.clone(),
+        3..=9 => provisioned(blank, 2, tokens, random),
+        10..=12 => provisioned(blank, 64, tokens, random),
+        13..=14 => raw_noise(blank, random),
+        _ if random.one_in(4) => blank.with_cells(vec![0xffff; cells]),
+        _ => blank.clone(),
     };
     if random.one_in(5) {
-        lay_random(&mut cells, constants, random);
+        lay_random(&mut chip, random);
     }
     if random.one_in(8) {
-        damage(&mut cells, random);
+        damage(&mut chip, random);
     }
-    cells
+    chip
 }
 
-/// An image with all data written and all digests stored, still RAW.
-pub fn locked(constants: &[u16], tokens: &mut RawTokens, random: &mut Random) -> Vec<u16> {
-    written(constants, u64::MAX, tokens, random).cells
+/// A chip with all data written and all digests stored, still RAW.
+pub fn locked(blank: &Chip, tokens: &mut RawTokens, random: &mut Random) -> Chip {
+    blank.with_cells(written(blank, u64::MAX, tokens, random).cells)
 }
 
-/// An image with what is stored for three tokens, and their partitions locked.
-pub fn with_tokens(constants: &[u16], stored: [u128; 3]) -> Vec<u16> {
-    let mut chip = Chip::new(vec![0; CELLS], constants.to_vec());
+/// A chip with what is stored for three tokens, and their partitions locked.
+pub fn with_tokens(blank: &Chip, stored: [u128; 3]) -> Chip {
+    let mut chip = blank.clone();
     chip.execute(Command::PowerUp);
-    for ((_, address), stored) in STORED_TOKENS.into_iter().zip(stored) {
+    for ((_, address), stored) in stored_tokens(&blank.map).into_iter().zip(stored) {
         store(&mut chip, address, stored);
     }
-    for secret in [SECRET0, SECRET2] {
-        chip.execute(Command::Digest(MAP[secret].start));
+    for secret in [0, 2] {
+        let partition = blank.map.partitions[blank.map.number_of(Kind::Secret(secret))];
+        chip.execute(Command::Digest(partition.start));
     }
-    chip.cells
+    blank.with_cells(chip.cells)
 }
 
 fn store(chip: &mut Chip, address: u32, stored: u128) {
@@ -111,52 +113,53 @@ fn store(chip: &mut Chip, address: u32, stored: u128) {
     chip.execute(Command::Write(address + 8, half_of(stored, true)));
 }
 
-/// An image left by a provisioning that skips one step in `skip`, and by some
+/// A chip left by a provisioning that skips one step in `skip`, and by some
 /// transitions after it.
-pub fn provisioned(
-    constants: &[u16],
-    skip: u64,
-    tokens: &mut RawTokens,
-    random: &mut Random,
-) -> Vec<u16> {
-    let mut chip = written(constants, skip, tokens, random);
+pub fn provisioned(blank: &Chip, skip: u64, tokens: &mut RawTokens, random: &mut Random) -> Chip {
+    let mut chip = written(blank, skip, tokens, random);
     for _ in 0..random.choose(&[0, 0, 1, 1, 2, 2, 3, 4, 6, 10]) {
         let transition = walk::transition(&chip, tokens, random);
         chip.execute(transition);
         chip.execute(Command::PowerUp);
     }
-    chip.cells
+    blank.with_cells(chip.cells)
 }
 
 /// A chip powered up after its partitions were written and digested.
-fn written(constants: &[u16], skip: u64, tokens: &mut RawTokens, random: &mut Random) -> Chip {
-    let mut chip = Chip::new(vec![0; CELLS], constants.to_vec());
+fn written(blank: &Chip, skip: u64, tokens: &mut RawTokens, random: &mut Random) -> Chip {
+    let mut chip = blank.clone();
     chip.execute(Command::PowerUp);
-    for (number, partition) in MAP[..LIFE_CYCLE].iter().enumerate() {
+    let (_life_cycle, others) = blank.map.partitions.split_last().expect("partitions");
+    for (number, partition) in others.iter().enumerate() {
         let full = !random.one_in(skip);
         if full || !random.one_in(8) {
             let mistaken = random.one_in(skip) && random.one_in(8);
             store_tokens(&mut chip, number, mistaken, tokens, random);
         }
         // A granule that is written already stays as it is.
-        for address in (partition.start..partition.digest).step_by(partition.granule as usize) {
+        for address in partition.granules() {
             if full || random.one_in(4) {
                 chip.execute(Command::Write(address, random.next()));
             }
         }
-        if random.one_in(skip) {
-            continue;
-        }
-        if number < HW_CFG {
-            let address = partition.digest + random.below(8) as u32;
-            let digest = random.number() | 1 << random.below(64);
-            chip.execute(Command::Write(address, digest));
-        } else {
-            chip.execute(Command::Digest(partition.start));
+        if !random.one_in(skip) {
+            lock(&mut chip, partition, random);
         }
     }
     chip.execute(Command::PowerUp);
     chip
+}
+
+/// Stores the digest of a partition: a number that software made, or what the
+/// hardware computes.
+fn lock(chip: &mut Chip, partition: &Partition, random: &mut Random) {
+    if partition.has_software_digest() {
+        let address = partition.digest + random.below(8) as u32;
+        let digest = random.number() | 1 << random.below(64);
+        chip.execute(Command::Write(address, digest));
+    } else {
+        chip.execute(Command::Digest(partition.start));
+    }
 }
 
 /// Stores hashes where a partition has tokens, or what mistakes give.
@@ -167,7 +170,7 @@ fn store_tokens(
     tokens: &mut RawTokens,
     random: &mut Random,
 ) {
-    for (partition, address) in STORED_TOKENS {
+    for (partition, address) in stored_tokens(&chip.map) {
         if partition == number {
             let stored = match mistaken {
                 true => tokens.mistaken(random),
@@ -179,56 +182,55 @@ fn store_tokens(
 }
 
 /// Few set bits, with or without the life cycle left blank.
-fn raw_noise(random: &mut Random) -> Vec<u16> {
-    let mut cells = vec![0; CELLS];
+fn raw_noise(blank: &Chip, random: &mut Random) -> Chip {
+    let mut chip = blank.clone();
     for _ in 0..random.below(40) {
-        let place = random.below(CELLS as u64) as usize;
-        cells[place] |= 1 << random.below(16);
+        let place = random_below(random, chip.cells.len());
+        chip.cells[place] |= 1 << random.below(16);
     }
     if random.one_in(2) {
-        cells[MAP[LIFE_CYCLE].data()].fill(0);
+        chip.cells[blank.map.life_cycle()].fill(0);
     }
-    cells
+    chip
 }
 
 /// Puts a state and a count into the cells.
-pub fn lay(cells: &mut [u16], constants: &[u16], state: u8, count: u8) {
-    let words = [
-        counter_words(constants, count),
-        state_words(constants, state),
-    ]
-    .concat();
-    cells[MAP[LIFE_CYCLE].data()].copy_from_slice(&words);
+pub fn lay(chip: &mut Chip, state: u8, count: u8) {
+    let counters = counter_words(&chip.constants, count);
+    let words = [counters, state_words(&chip.constants, state)].concat();
+    chip.cells[chip.map.life_cycle()].copy_from_slice(&words);
 }
 
 /// Lays a random life cycle, often with the strokes near their end.
-fn lay_random(cells: &mut [u16], constants: &[u16], random: &mut Random) {
+fn lay_random(chip: &mut Chip, random: &mut Random) {
     let count = match random.below(3) {
         0 => random.choose(&[0, 1, 22, 23, 24]),
         _ => random.below(25) as u8,
     };
-    lay(cells, constants, random.below(21) as u8, count);
+    lay(chip, random.below(21) as u8, count);
 }
 
 /// Flips a bit, mostly where power-up looks.
-fn damage(cells: &mut [u16], random: &mut Random) {
-    let secret = random.choose(&[SECRET0, SECRET0 + 1, SECRET2]);
+fn damage(chip: &mut Chip, random: &mut Random) {
+    let mut checked = chip.map.partitions.clone();
+    checked.retain(Partition::has_hardware_digest);
+    let partition = random.choose(&checked);
     let place = match random.below(6) {
-        0 => MAP[HW_CFG].data(),
-        1 => MAP[secret].data(),
-        2 => MAP[HW_CFG].digest_words(),
-        3 => MAP[secret].digest_words(),
-        4 => MAP[LIFE_CYCLE].data(),
-        _ => 0..CELLS,
+        0..=1 => partition.data(),
+        2..=3 => partition.digest_words(),
+        4 => chip.map.life_cycle(),
+        _ => 0..chip.cells.len(),
     };
     let word = place.start + random_below(random, place.len());
-    cells[word] ^= 1 << random.below(16);
+    chip.cells[word] ^= 1 << random.below(16);
 }
 
 #[cfg(test)]
 mod tests {
     use super::*;
     use crate::constants::valid;
+    use crate::map::Map;
+    use crate::model::Phase;
 
     #[test]
     fn constants_are_what_they_are_called() {
@@ -241,16 +243,22 @@ mod tests {
 
     #[test]
     fn images_power_up_in_every_way() {
-        let mut random = Random::new(12);
-        let mut seen = std::collections::BTreeMap::new();
-        for _ in 0..300 {
-            let mut tokens = RawTokens::new();
-            let constants = constants(&mut tokens, &mut random);
-            let cells = image(&constants, &mut tokens, &mut random);
-            let mut chip = Chip::new(cells, constants);
-            *seen.entry(chip.execute(Command::PowerUp).code).or_insert(0) += 1;
+        for (map, seed) in [(Map::one(), 12), (Map::two(), 13)] {
+            let mut random = Random::new(seed);
+            let mut seen = std::collections::BTreeMap::new();
+            for _ in 0..300 {
+                let mut tokens = RawTokens::new();
+                let constants = constants(&mut tokens, &mut random);
+                let blank = Chip::blank(&map, &constants);
+                let mut chip = image(&blank, &mut tokens, &mut random);
+                assert_eq!(
+                    (chip.session.phase, chip.cells.len()),
+                    (Phase::Off, map.cells())
+                );
+                *seen.entry(chip.execute(Command::PowerUp).code).or_insert(0) += 1;
+            }
+            assert!(seen.keys().eq([0, 6, 7].iter()), "{seen:?}");
+            assert!(seen[&0] > 120 && seen[&6] > 10 && seen[&7] > 10, "{seen:?}");
         }
-        assert!(seen.keys().eq([0, 6, 7].iter()), "{seen:?}");
-        assert!(seen[&0] > 120 && seen[&6] > 10 && seen[&7] > 10, "{seen:?}");
     }
 }

@@ -1,6 +1,5 @@
 //! The constants: keys, digest numbers, life cycle words, the RAW token's hash.
 
-use crate::map::SECRET0;
 use crate::words;
 
 pub const CONSTANTS: usize = 132;
@@ -34,9 +33,9 @@ fn grows((before, after): (u16, u16)) -> bool {
     before.count_ones() > 0 && before | after == after && before.count_ones() < after.count_ones()
 }
 
-/// The scrambling key of a secret partition.
-pub fn secret_key(constants: &[u16], partition: usize) -> u128 {
-    wide(constants, KEYS + 8 * (partition - SECRET0))
+/// The scrambling key of a secret, by the secret's number.
+pub fn secret_key(constants: &[u16], secret: usize) -> u128 {
+    wide(constants, KEYS + 8 * secret)
 }
 
 pub fn digest_start(constants: &[u16]) -> u64 {
@@ -110,8 +109,8 @@ mod tests {
     #[test]
     fn fields_stand_where_the_paper_says() {
         let constants: Vec<u16> = (0..CONSTANTS as u16).collect();
-        assert_eq!(secret_key(&constants, 4) as u64, 0x000b_000a_0009_0008);
-        assert_eq!(secret_key(&constants, 5) >> 112, 23);
+        assert_eq!(secret_key(&constants, 1) as u64, 0x000b_000a_0009_0008);
+        assert_eq!(secret_key(&constants, 2) >> 112, 23);
         assert_eq!(digest_start(&constants), 0x001b_001a_0019_0018);
         assert_eq!(final_key(&constants) >> 64, 0x0023_0022_0021_0020);
         assert_eq!(raw_token(&constants) >> 112, 131);

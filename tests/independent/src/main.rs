@@ -2,6 +2,8 @@
 //! written from the rules alone by other means.
 
 mod bench;
+#[cfg(test)]
+mod case_steps;
 mod cases;
 mod child;
 mod chips;
@@ -14,6 +16,10 @@ mod inputs;
 mod keccak;
 mod life_cycle;
 mod map;
+#[cfg(test)]
+mod map_2_cases;
+#[cfg(test)]
+mod map_2_rules;
 mod model;
 mod power_up;
 mod present;
@@ -46,7 +52,7 @@ const USAGE: &str = "usage:
   independent bench";
 
 const CASES: u64 = 24_000;
-const RUNS: u64 = 2_400;
+const RUNS: u64 = 2_100;
 const SEED: u64 = 20_260;
 
 fn main() -> ExitCode {

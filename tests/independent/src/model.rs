@@ -3,7 +3,7 @@
 
 use crate::constants::{self, CONSTANTS};
 use crate::digest;
-use crate::map::{self, Partition, Sort, CELLS, HW_CFG, MAP};
+use crate::map::{Kind, Map, Partition};
 use crate::{present, words};
 
 #[derive(Clone, Copy, PartialEq, Debug)]
@@ -18,8 +18,10 @@ pub enum Phase {
 #[derive(Clone, PartialEq, Debug)]
 pub struct Session {
     pub phase: Phase,
-    pub digests: [u64; 6],
-    pub read_locks: [bool; 2],
+    /// Sensed digests by partition, zero where there is none.
+    pub digests: Vec<u64>,
+    /// By partition; only some can be locked.
+    pub read_locks: Vec<bool>,
     pub state: u8,
     pub count: u8,
 }
@@ -67,6 +69,7 @@ impl Answer {
 
 #[derive(Clone, PartialEq, Debug)]
 pub struct Chip {
+    pub map: Map,
     pub cells: Vec<u16>,
     pub copy: Vec<u16>,
     pub constants: Vec<u16>,
@@ -74,11 +77,11 @@ pub struct Chip {
 }
 
 impl Session {
-    pub fn fresh() -> Session {
+    pub fn fresh(map: &Map) -> Session {
         Session {
             phase: Phase::Off,
-            digests: [0; 6],
-            read_locks: [false; 2],
+            digests: vec![0; map.partitions.len()],
+            read_locks: vec![false; map.partitions.len()],
             state: 0,
             count: 0,
         }
@@ -87,19 +90,29 @@ impl Session {
 
 impl Chip {
     /// A chip with a fresh session and a blank copy.
-    pub fn new(cells: Vec<u16>, constants: Vec<u16>) -> Chip {
+    pub fn new(map: &Map, cells: Vec<u16>, constants: Vec<u16>) -> Chip {
         Chip {
+            map: map.clone(),
             cells,
-            copy: vec![0; CELLS],
+            copy: vec![0; map.cells()],
             constants,
-            session: Session::fresh(),
+            session: Session::fresh(map),
         }
+    }
+
+    pub fn blank(map: &Map, constants: &[u16]) -> Chip {
+        Chip::new(map, vec![0; map.cells()], constants.to_vec())
+    }
+
+    /// A chip with the same map and constants, and a fresh session.
+    pub fn with_cells(&self, cells: Vec<u16>) -> Chip {
+        Chip::new(&self.map, cells, self.constants.clone())
     }
 
     /// One command, its refusals in order.
     pub fn execute(&mut self, command: Command) -> Answer {
         let lengths = [self.cells.len(), self.copy.len(), self.constants.len()];
-        if lengths != [CELLS, CELLS, CONSTANTS] {
+        if lengths != [self.map.cells(), self.map.cells(), CONSTANTS] {
             return WRONG_LENGTH;
         }
         if !constants::valid(&self.constants) {
@@ -123,82 +136,91 @@ impl Chip {
     }
 
     fn read(&self, address: u32) -> Answer {
-        let Some(number) = direct_access(address) else {
+        let Some((number, partition)) = self.direct_access(address) else {
             return NOT_ALLOWED;
         };
-        let partition = &MAP[number];
         let stored = words::number(&self.cells[partition.granule_words(address)]);
         if partition.in_digest(address) {
             return Answer::done(stored);
         }
-        let hidden = match partition.sort {
-            Sort::Software => self.session.read_locks[number],
-            Sort::Secret => self.session.digests[number] != 0,
-            _ => false,
-        };
-        match (hidden, partition.sort) {
-            (true, _) => NOT_ALLOWED,
-            (false, Sort::Secret) => Answer::done(self.unscramble(number, stored)),
-            (false, _) => Answer::done(stored),
+        let sensed_locked = self.session.digests[number] != 0;
+        match partition.kind {
+            Kind::Secret(_) if sensed_locked => NOT_ALLOWED,
+            Kind::Secret(secret) => Answer::done(self.unscramble(secret, stored)),
+            _ if self.session.read_locks[number] => NOT_ALLOWED,
+            _ => Answer::done(stored),
         }
     }
 
     fn write(&mut self, address: u32, data: u64) -> Answer {
-        let Some(number) = direct_access(address) else {
+        let Some((number, partition)) = self.direct_access(address) else {
             return NOT_ALLOWED;
         };
-        let partition = &MAP[number];
         let sealed = partition.in_digest(address) && partition.has_hardware_digest();
         if sealed || self.session.digests[number] != 0 {
             return NOT_ALLOWED;
         }
-        let value = match partition.sort {
-            Sort::Secret => present::encrypt(constants::secret_key(&self.constants, number), data),
+        let stored = match partition.kind {
+            Kind::Secret(secret) => {
+                present::encrypt(constants::secret_key(&self.constants, secret), data)
+            }
             _ => data,
         };
         let place = partition.granule_words(address);
-        match words::burn(
-            &mut self.cells,
-            place.start as u64,
-            &words::words_of(value)[..place.len()],
-        ) {
+        let value = &words::words_of(stored)[..place.len()];
+        let programmed = match partition.takes_more_bits(address) {
+            true => words::program(&mut self.cells, place.start as u64, value),
+            false => words::burn(&mut self.cells, place.start as u64, value),
+        };
+        match programmed {
             Ok(()) => Answer::done(0),
             Err(word) => Answer::not_blank(word),
         }
     }
 
     fn front_read(&self, address: u32) -> Answer {
-        let partition = &MAP[HW_CFG];
-        if map::find(address) != Some(HW_CFG) || partition.in_digest(address) {
-            return NOT_ALLOWED;
+        match self.direct_access(address) {
+            Some((_, partition))
+                if partition.kind == Kind::Hardware && !partition.in_digest(address) =>
+            {
+                Answer::done(words::number(&self.copy[partition.granule_words(address)]))
+            }
+            _ => NOT_ALLOWED,
         }
-        Answer::done(words::number(&self.copy[partition.granule_words(address)]))
     }
 
     fn digest(&mut self, address: u32) -> Answer {
         let starts_here = |p: &Partition| p.has_hardware_digest() && p.start == address;
-        let Some(number) = MAP.iter().position(starts_here) else {
+        let Some(number) = self.map.partitions.iter().position(starts_here) else {
             return NOT_ALLOWED;
         };
         if self.session.digests[number] != 0 {
             return NOT_ALLOWED;
         }
         let digest = self.computed_digest(number);
-        let place = MAP[number].digest_words().start as u64;
+        let place = self.map.partitions[number].digest_words().start as u64;
         match words::burn(&mut self.cells, place, &words::words_of(digest)) {
             Ok(()) => Answer::done(digest),
             Err(word) => Answer::not_blank(word),
         }
     }
 
-    fn read_lock(&mut self, partition: u8) -> Answer {
-        match self.session.read_locks.get_mut(usize::from(partition)) {
-            Some(lock) => {
-                *lock = true;
+    fn read_lock(&mut self, number: u8) -> Answer {
+        let number = usize::from(number);
+        match self.map.partitions.get(number) {
+            Some(partition) if partition.has_software_digest() => {
+                self.session.read_locks[number] = true;
                 Answer::done(0)
             }
-            None => NOT_ALLOWED,
+            _ => NOT_ALLOWED,
         }
+    }
+
+    /// The partition of an address that direct access may touch at all.
+    fn direct_access(&self, address: u32) -> Option<(usize, Partition)> {
+        let number = self.map.find(address)?;
+        let partition = self.map.partitions[number];
+        (partition.kind != Kind::LifeCycle).then_some((number, partition))
     }
 
     /// The digest over the data words of a partition as they are stored.
@@ -206,20 +228,17 @@ impl Chip {
         digest::digest(
             constants::digest_start(&self.constants),
             constants::final_key(&self.constants),
-            &self.cells[MAP[number].data()],
+            &self.cells[self.map.partitions[number].data()],
         )
     }
 
+    /// The digest of a partition in the cells, zero where there is none.
     pub fn stored_digest(&self, number: usize) -> u64 {
-        words::number(&self.cells[MAP[number].digest_words()])
+        words::number(&self.cells[self.map.partitions[number].digest_words()])
     }
 
-    pub fn unscramble(&self, number: usize, stored: u64) -> u64 {
-        present::decrypt(constants::secret_key(&self.constants, number), stored)
+    /// A block of a secret, by the secret's number, as it was before scrambling.
+    pub fn unscramble(&self, secret: usize, stored: u64) -> u64 {
+        present::decrypt(constants::secret_key(&self.constants, secret), stored)
     }
-}
-
-/// The partition of an address that direct access may touch at all.
-fn direct_access(address: u32) -> Option<usize> {
-    map::find(address).filter(|&number| MAP[number].sort != Sort::LifeCycle)
 }

@@ -3,9 +3,10 @@
 
 use crate::bench::{CONSTANTS, IMAGE};
 use crate::child;
+use crate::map::Map;
 use crate::random::Random;
 use crate::scenarios::{self, Run};
-use crate::sweeps;
+use crate::sweeps::{self, Share};
 use std::collections::BTreeMap;
 use std::fs;
 use std::path::{Path, PathBuf};
@@ -18,16 +19,21 @@ pub fn compare(program: &str, count: u64, random: &mut Random) -> Result<bool, S
     // The runs have other folders, so a path must not depend on this one.
     let program = fs::canonicalize(program).map_err(|error| format!("{program}: {error}"))?;
     let base = std::env::temp_dir().join(format!("independent-{}", std::process::id()));
+    let maps = [Map::one(), Map::two()];
     let mut codes: BTreeMap<String, u64> = BTreeMap::new();
+    let mut tally = Tally::default();
     let mut differences = 0;
-    let mut sweeps = sweeps::runs(random).into_iter();
+    let mut sweeps = sweeps(&maps, random).into_iter();
     let swept = sweeps.len() as u64;
     for number in 0..swept + count {
-        let run = sweeps.next().unwrap_or_else(|| scenarios::make(random));
+        let run = sweeps
+            .next()
+            .unwrap_or_else(|| scenarios::make(tally.fewest(&maps), random));
         let expected = run.printed();
         let folder = base.join(number.to_string());
         let faults = try_run(&program, &folder, &run, &expected)?;
         count_codes(&expected, &mut codes);
+        tally.add(&run);
         differences += u64::from(!faults.is_empty());
         if faults.is_empty() || differences > SHOWN {
             fs::remove_dir_all(&folder).map_err(|error| error.to_string())?;
@@ -39,10 +45,48 @@ pub fn compare(program: &str, count: u64, random: &mut Random) -> Result<bool, S
         fs::remove_dir_all(&base).map_err(|error| error.to_string())?;
     }
     println!(
-        "{swept} swept and {count} random runs, {}",
+        "{swept} swept and {count} random runs, {}, {}",
+        tally.told(&maps),
         summary(differences, &codes)
     );
     Ok(differences == 0)
+}
+
+/// The sweeps of both maps, one map's after the other's.
+fn sweeps(maps: &[Map; 2], random: &mut Random) -> Vec<Run> {
+    let shares = maps.iter().zip(Share::BOTH);
+    shares
+        .flat_map(|(map, share)| sweeps::runs(map, share, random))
+        .collect()
+}
+
+/// How many runs there were for each map, by its name.
+#[derive(Default)]
+struct Tally {
+    runs: BTreeMap<&'static str, u64>,
+}
+
+impl Tally {
+    fn add(&mut self, run: &Run) {
+        *self.runs.entry(run.map).or_insert(0) += 1;
+    }
+
+    fn of(&self, map: &Map) -> u64 {
+        self.runs.get(map.name).copied().unwrap_or(0)
+    }
+
+    /// The map that fewest runs were for, so that each map has its half.
+    fn fewest<'a>(&self, maps: &'a [Map; 2]) -> &'a Map {
+        match self.of(&maps[0]) <= self.of(&maps[1]) {
+            true => &maps[0],
+            false => &maps[1],
+        }
+    }
+
+    fn told(&self, maps: &[Map; 2]) -> String {
+        let part = |map: &Map| format!("{} for {}", self.of(map), map.name);
+        maps.iter().map(part).collect::<Vec<String>>().join(", ")
+    }
 }
 
 fn summary(differences: u64, codes: &BTreeMap<String, u64>) -> String {
@@ -124,7 +168,7 @@ fn show(
         (folder.join("script.bin"), &run.script),
         (folder.join("expected.txt"), expected.as_bytes()),
     ];
-    println!("run {number}, kept in {}", folder.display());
+    println!("run {number} for {}, kept in {}", run.map, folder.display());
     for fault in faults {
         println!("  {fault}");
     }
@@ -138,5 +182,29 @@ fn show(
 fn count_codes(printed: &str, codes: &mut BTreeMap<String, u64>) {
     for line in printed.lines().filter(|line| !line.starts_with("end")) {
         *codes.entry(line[3..5].to_string()).or_insert(0) += 1;
+    }
+}
+
+#[cfg(test)]
+mod tests {
+    use super::*;
+
+    #[test]
+    fn half_of_the_runs_are_for_each_map() {
+        let (maps, mut random) = ([Map::one(), Map::two()], Random::new(61));
+        let mut tally = Tally::default();
+        for run in sweeps(&maps, &mut random) {
+            tally.add(&run);
+        }
+        let apart = tally.of(&maps[0]).abs_diff(tally.of(&maps[1]));
+        assert!(
+            tally.of(&maps[0]) > 900 && apart < 100,
+            "{}",
+            tally.told(&maps)
+        );
+        for _ in 0..apart {
+            tally.add(&scenarios::make(tally.fewest(&maps), &mut random));
+        }
+        assert_eq!(tally.of(&maps[0]), tally.of(&maps[1]));
     }
 }

@@ -3,6 +3,7 @@
 use crate::bench;
 use crate::chips;
 use crate::constants::lay_raw_token;
+use crate::map::Map;
 use crate::model::{Chip, Command};
 use crate::random::Random;
 use crate::raw_tokens::RawTokens;
@@ -11,21 +12,24 @@ use crate::walk;
 
 /// One run. A file may be missing.
 pub struct Run {
+    /// The name of the map that it was made for.
+    pub map: &'static str,
     pub script: Vec<u8>,
     pub image: Option<Vec<u8>>,
     pub constants: Option<Vec<u8>>,
 }
 
 impl Run {
-    /// A run of commands on cells.
-    pub fn of(commands: &[Command], cells: &[u16], constants: &[u16]) -> Run {
+    /// A run of commands on a chip.
+    pub fn of(commands: &[Command], chip: &Chip) -> Run {
         Run {
+            map: chip.map.name,
             script: commands
                 .iter()
                 .flat_map(|&command| record(command))
                 .collect(),
-            image: Some(bench::file_of_words(cells)),
-            constants: Some(bench::file_of_words(constants)),
+            image: Some(bench::file_of_words(&chip.cells)),
+            constants: Some(bench::file_of_words(&chip.constants)),
         }
     }
 
@@ -36,25 +40,26 @@ impl Run {
     }
 }
 
-/// A random run.
-pub fn make(random: &mut Random) -> Run {
+/// A random run on a map.
+pub fn make(map: &Map, random: &mut Random) -> Run {
     let mut tokens = RawTokens::new();
     let valid = chips::constants(&mut tokens, random);
-    let cells = chips::image(&valid, &mut tokens, random);
-    let mut constants = match random.below(16) {
-        0 => chips::invalid_constants(&mut tokens, random),
+    let mut chip = chips::image(&Chip::blank(map, &valid), &mut tokens, random);
+    match random.below(16) {
+        0 => chip.constants = chips::invalid_constants(&mut tokens, random),
         // Valid, but not those of the image.
-        1 => chips::constants(&mut tokens, random),
-        _ => valid,
-    };
-    if random.one_in(24) {
-        lay_raw_token(&mut constants, tokens.mistaken(random));
+        1 => chip.constants = chips::constants(&mut tokens, random),
+        _ => {}
     }
-    let mut chip = Chip::new(cells.clone(), constants.clone());
+    if random.one_in(24) {
+        lay_raw_token(&mut chip.constants, tokens.mistaken(random));
+    }
+    let run = Run::of(&[], &chip);
     Run {
         script: script(&mut chip, &mut tokens, random),
-        image: file(bench::file_of_words(&cells), random),
-        constants: file(bench::file_of_words(&constants), random),
+        image: run.image.and_then(|bytes| file(bytes, random)),
+        constants: run.constants.and_then(|bytes| file(bytes, random)),
+        ..run
     }
 }
 
@@ -78,7 +83,7 @@ fn script(chip: &mut Chip, tokens: &mut RawTokens, random: &mut Random) -> Vec<u
         10 if random.one_in(3) => {
             let length =
                 LONGEST + random.choose(&[0, 0, 0, 1, 1, 2, 5000]) - random.choose(&[0, 0, 1]);
-            return filled(records.concat(), length, random);
+            return filled(records.concat(), length, &chip.map, random);
         }
         _ => {}
     }
@@ -108,9 +113,9 @@ fn unknown_kind(random: &mut Random) -> u8 {
 }
 
 /// The script brought to a length with reads, the last bytes as they fall.
-fn filled(mut script: Vec<u8>, length: usize, random: &mut Random) -> Vec<u8> {
+fn filled(mut script: Vec<u8>, length: usize, map: &Map, random: &mut Random) -> Vec<u8> {
     while script.len() < length {
-        script.extend(record(Command::Read(walk::address(random))));
+        script.extend(record(Command::Read(walk::address(map, random))));
     }
     script.truncate(length);
     script
@@ -134,6 +139,7 @@ fn file(mut bytes: Vec<u8>, random: &mut Random) -> Option<Vec<u8>> {
                 2 * right,
                 264,
                 896,
+                1480,
             ];
             bytes.resize(random.choose(&lengths), 0);
             Some(bytes)
@@ -172,50 +178,105 @@ mod tests {
 
     #[test]
     fn runs_bring_out_every_answer() {
-        let mut random = Random::new(31);
-        let mut missing = expected_pairs();
-        for _ in 0..2000 {
-            for line in make(&mut random).printed().lines() {
-                missing.remove(line.get(..5).unwrap_or(line));
+        for map in [Map::one(), Map::two()] {
+            let mut random = Random::new(31);
+            let mut missing = expected_pairs();
+            for _ in 0..2000 {
+                for line in make(&map, &mut random).printed().lines() {
+                    missing.remove(line.get(..5).unwrap_or(line));
+                }
+                if missing.is_empty() {
+                    break;
+                }
             }
-            if missing.is_empty() {
-                return;
-            }
+            assert!(
+                missing.is_empty(),
+                "never printed on {}: {missing:?}",
+                map.name
+            );
         }
-        panic!("never printed: {missing:?}");
     }
 
-    /// The transitions of a run that ask for a token: the token and the code.
-    fn judged(run: &Run) -> Vec<(Token, u8)> {
-        let words = |file: &Option<Vec<u8>>| bench::words_of_file(file.as_deref().unwrap_or(&[]));
-        let mut chip = Chip::new(words(&run.image), words(&run.constants));
-        let mut reader = Reader::new(&run.script);
-        let mut judged = Vec::new();
-        while let Next::Record { command, .. } = reader.next() {
-            let state = chip.session.state;
-            let code = chip.execute(command).code;
-            if let (Command::Transition(target, _), 0 | 0x23) = (command, code) {
-                judged.extend(token_between(state, target).map(|asked| (asked, code)));
-            }
-        }
-        judged
+    /// What comes out in a run: the tokens asked for by transitions, with the
+    /// codes; the codes of writes to key states that hold something.
+    #[derive(Default)]
+    struct Seen {
+        tokens: Vec<(Token, u8)>,
+        key_states: Vec<u8>,
     }
 
-    /// In 800 runs about 80, 13, 27 and 10 right ones are usual.
+    impl Seen {
+        fn carry_out(&mut self, run: &Run) {
+            let bytes = |file: &Option<Vec<u8>>| file.clone().unwrap_or_default();
+            let (image, constants) = (bytes(&run.image), bytes(&run.constants));
+            let words = bench::words_of_file;
+            let map = Map::of_image(image.len());
+            let mut chip = Chip::new(&map, words(&image), words(&constants));
+            let mut reader = Reader::new(&run.script);
+            while let Next::Record { command, .. } = reader.next() {
+                let (asked, held) = (asked(&chip, command), holds_key_state(&chip, command));
+                match (command, chip.execute(command).code) {
+                    (Command::Transition(..), code @ (0 | 0x23)) => {
+                        self.tokens.extend(asked.map(|asked| (asked, code)));
+                    }
+                    (Command::Write(..), code @ (0 | 4)) if held => self.key_states.push(code),
+                    _ => {}
+                }
+            }
+        }
+    }
+
+    fn asked(chip: &Chip, command: Command) -> Option<Token> {
+        match command {
+            Command::Transition(target @ 0..=20, _) => token_between(chip.session.state, target),
+            _ => None,
+        }
+    }
+
+    /// Whether a write is to key states that are not blank.
+    fn holds_key_state(chip: &Chip, command: Command) -> bool {
+        let Command::Write(address, _) = command else {
+            return false;
+        };
+        let number = chip.map.find(address);
+        let partition = number.map(|number| chip.map.partitions[number]);
+        partition.is_some_and(|partition| {
+            let held = chip.cells.get(partition.granule_words(address));
+            let blank = held.unwrap_or(&[]).iter().all(|word| *word == 0);
+            partition.takes_more_bits(address) && !blank
+        })
+    }
+
+    /// In 500 runs about 50, 8, 17 and 6 right ones are usual, and 30 writes of
+    /// each sort to key states.
     #[test]
-    fn each_token_is_often_right_and_sometimes_wrong() {
-        let mut random = Random::new(32);
-        let runs = (0..800).map(|_| make(&mut random));
-        let judged: Vec<(Token, u8)> = runs.flat_map(|run| judged(&run)).collect();
-        for (asked, least) in [
-            (Token::Raw, 50),
-            (Token::TestUnlock, 6),
-            (Token::TestExit, 14),
-            (Token::Rma, 4),
-        ] {
-            let times = |code: u8| judged.iter().filter(|seen| **seen == (asked, code)).count();
-            assert!(times(0) >= least, "{asked:?} {}", times(0));
-            assert!(times(0x23) >= 1, "{asked:?} {}", times(0x23));
+    fn tokens_and_key_states_are_often_right_and_sometimes_wrong() {
+        for (map, writes) in [(Map::one(), 0), (Map::two(), 15)] {
+            let mut random = Random::new(32);
+            let mut seen = Seen::default();
+            for _ in 0..500 {
+                seen.carry_out(&make(&map, &mut random));
+            }
+            for (asked, least) in [
+                (Token::Raw, 30),
+                (Token::TestUnlock, 4),
+                (Token::TestExit, 9),
+                (Token::Rma, 2),
+            ] {
+                let tokens = |code| {
+                    seen.tokens
+                        .iter()
+                        .filter(move |pair| **pair == (asked, code))
+                };
+                let times = |code| tokens(code).count();
+                assert!(times(0) >= least, "{} {asked:?} {}", map.name, times(0));
+                assert!(times(0x23) >= 1, "{} {asked:?} {}", map.name, times(0x23));
+            }
+            for code in [0, 4] {
+                let codes = seen.key_states.iter();
+                let times = codes.filter(|seen| **seen == code).count();
+                assert!(times >= writes, "{} {code} {times}", map.name);
+            }
         }
     }
 }

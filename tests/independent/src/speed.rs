@@ -3,6 +3,8 @@
 //! the time of a power-up.
 
 use crate::cases::{Case, ANSWER_BYTES, CHAIN, TOKEN};
+use crate::map::Map;
+use crate::model::Chip;
 use crate::random::Random;
 use crate::raw_tokens::RawTokens;
 use crate::scenarios::Run;
@@ -80,49 +82,63 @@ pub fn token_hashes(programs: &[String]) -> Result<bool, String> {
     Ok(true)
 }
 
-/// Prints the time of a power-up on bench programs, of a blank chip and of one
-/// that is fully locked. False when what they print differs.
+/// Prints the time of a power-up on bench programs, for each map of a blank
+/// chip and of one that is fully locked. A program that does not know a map is
+/// named and left out there. False when what they print differs.
 pub fn power_ups(programs: &[String]) -> Result<bool, String> {
-    let (locked, constants) = locked_chip();
-    let blank = vec![0; locked.len()];
-    Ok(time_power_ups("blank", &blank, &constants, programs)?
-        && time_power_ups("fully locked", &locked, &constants, programs)?)
+    let mut agree = true;
+    for map in [Map::one(), Map::two()] {
+        let (blank, locked) = measured_chips(&map);
+        for (name, chip) in [("blank", blank), ("fully locked", locked)] {
+            agree &= time_power_ups(&format!("{}, {name}", map.name), &chip, programs)?;
+        }
+    }
+    Ok(agree)
 }
 
-/// The cells and the constants of a chip that is fully locked.
-fn locked_chip() -> (Vec<u16>, Vec<u16>) {
+/// A chip that is blank and one that is fully locked, with the same constants.
+fn measured_chips(map: &Map) -> (Chip, Chip) {
     let (mut tokens, mut random) = (RawTokens::new(), Random::new(1));
     let constants = chips::constants(&mut tokens, &mut random);
-    let cells = chips::locked(&constants, &mut tokens, &mut random);
-    (cells, constants)
+    let blank = Chip::blank(map, &constants);
+    let locked = chips::locked(&blank, &mut tokens, &mut random);
+    (blank, locked)
 }
 
-fn time_power_ups(
-    chip: &str,
-    cells: &[u16],
-    constants: &[u16],
-    programs: &[String],
-) -> Result<bool, String> {
+fn time_power_ups(name: &str, chip: &Chip, programs: &[String]) -> Result<bool, String> {
     let folder = std::env::temp_dir().join(format!("independent-{}", std::process::id()));
     let failure = |error: std::io::Error| error.to_string();
+    runs::lay_files(&folder, &Run::of(&[], chip)).map_err(failure)?;
+    let times = best_power_ups(name, &folder, programs);
+    fs::remove_dir_all(&folder).map_err(failure)?;
+    times
+}
+
+fn best_power_ups(name: &str, folder: &Path, programs: &[String]) -> Result<bool, String> {
     let mut runners = Vec::new();
     for program in programs {
         let path = fs::canonicalize(program).map_err(|error| format!("{program}: {error}"))?;
-        let folder = &folder;
-        runners.push(Runner::new(program, move |n| powered_up(&path, folder, n)));
+        match knows_the_image(&path, folder)? {
+            true => runners.push(Runner::new(program, move |n| powered_up(&path, folder, n))),
+            false => println!("     no power-up, {name}: {program}"),
+        }
     }
-    runs::lay_files(&folder, &Run::of(&[], cells, constants)).map_err(failure)?;
-    let times = best_times(&runners, POWER_UPS);
-    fs::remove_dir_all(&folder).map_err(failure)?;
-    let times = times?;
+    let times = best_times(&runners, POWER_UPS)?;
     for (runner, time) in runners.iter().zip(times.iter().flatten()) {
         let each = time.as_secs_f64() * 1e6 / POWER_UPS as f64;
         println!(
-            "{each:>7.2} microseconds a power-up, {chip}: {}",
+            "{each:>7.2} microseconds a power-up, {name}: {}",
             runner.name
         );
     }
     Ok(times.is_some())
+}
+
+/// Whether a bench program takes the length of the image for a right one.
+fn knows_the_image(program: &Path, folder: &Path) -> Result<bool, String> {
+    let wrong_length = b"07 10 0000000000000000\nend 1\n";
+    let outcome = child::run(program, folder, vec![7], wrong_length.len())?;
+    Ok(outcome.output != wrong_length)
 }
 
 impl<'a> Runner<'a> {
@@ -220,14 +236,19 @@ fn powered_up(program: &Path, folder: &Path, count: u64) -> Result<Vec<u8>, Stri
 #[cfg(test)]
 mod tests {
     use super::*;
-    use crate::model::{Chip, Command};
+    use crate::model::Command;
 
     #[test]
     fn the_locked_chip_is_fully_locked() {
-        let (cells, constants) = locked_chip();
-        let mut chip = Chip::new(cells, constants);
-        assert_eq!(chip.execute(Command::PowerUp).code, 0);
-        assert!(chip.session.digests.iter().all(|digest| *digest != 0));
+        for map in [Map::one(), Map::two()] {
+            let (mut blank, mut locked) = measured_chips(&map);
+            assert_eq!(blank.execute(Command::PowerUp).code, 0);
+            assert_eq!(locked.execute(Command::PowerUp).code, 0);
+            let (life_cycle, digests) = locked.session.digests.split_last().unwrap();
+            assert!(digests.iter().all(|digest| *digest != 0));
+            assert_eq!(*life_cycle, 0);
+            assert_eq!(blank.session.digests, vec![0; digests.len() + 1]);
+        }
     }
 
     #[test]

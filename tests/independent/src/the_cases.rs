@@ -1,50 +1,29 @@
 //! The 14 cases of the paper, those of requests Two to Five, and rules about
 //! the record beside them.
 
+use crate::case_steps::{expect, in_state, powered};
 use crate::chips;
 use crate::constants::{example, lay_raw_token, EXAMPLE_HASH, EXAMPLE_TOKEN};
-use crate::life_cycle::{counter_words, state_words};
-use crate::map::CELLS;
-use crate::model::{Answer, Chip, Command, Phase, Session};
+use crate::life_cycle::counter_words;
+use crate::map::Map;
+use crate::model::{Chip, Command, Phase, Session};
 use crate::token::hash;
 use Command::{Digest, FrontRead, PowerUp, Read, ReadLock, Transition, Write};
 
 const COUNTERS_AT: usize = 0x328 / 2;
+const CELLS: usize = 448;
 
 fn blank() -> Chip {
-    Chip::new(vec![0; CELLS], example())
+    Chip::blank(&Map::one(), &example())
 }
 
 fn ready() -> Chip {
     powered(blank())
 }
 
-fn powered(mut chip: Chip) -> Chip {
-    assert_eq!(chip.execute(PowerUp).code, 0);
-    chip
-}
-
 /// A chip with a state and a count in its cells.
 fn at(state: u8, count: u8) -> Chip {
-    let mut chip = blank();
-    let words = [
-        counter_words(&example(), count),
-        state_words(&example(), state),
-    ]
-    .concat();
-    chip.cells[COUNTERS_AT..].copy_from_slice(&words);
-    chip
-}
-
-/// Executes the commands; each must give its code and value.
-fn expect(chip: &mut Chip, steps: &[(Command, u8, u64)]) {
-    for &(command, code, value) in steps {
-        assert_eq!(
-            chip.execute(command),
-            Answer { code, value },
-            "{command:x?}"
-        );
-    }
+    in_state(&Map::one(), &example(), state, count)
 }
 
 #[test]
@@ -267,7 +246,7 @@ fn a_software_digest_is_written_in_one_piece() {
 fn a_digest_is_read_in_one_piece() {
     for start in [0x000, 0x100] {
         let cells = holding(start + 0xf8, &WORDS);
-        let mut chip = powered(Chip::new(cells, example()));
+        let mut chip = powered(blank().with_cells(cells));
         for address in start + 0xf8..start + 0x100 {
             expect(&mut chip, &[(Read(address), 0, NUMBER)]);
         }
@@ -442,11 +421,11 @@ const MOVES: [(u8, u8, u128); 4] = [
 /// five strokes spent.
 fn with_hashes(state: u8) -> Chip {
     let [raw, unlock, exit, rma] = MOVES.map(|(_, _, token)| hash(token));
-    let mut constants = example();
-    lay_raw_token(&mut constants, raw);
-    let mut cells = chips::with_tokens(&constants, [unlock, exit, rma]);
-    chips::lay(&mut cells, &constants, state, 5);
-    powered(Chip::new(cells, constants))
+    let mut chip = blank();
+    lay_raw_token(&mut chip.constants, raw);
+    let mut chip = chips::with_tokens(&chip, [unlock, exit, rma]);
+    chips::lay(&mut chip, state, 5);
+    powered(chip)
 }
 
 #[test]
@@ -530,7 +509,7 @@ fn damage_is_found_in_order_and_empties_all() {
         chip.session,
         Session {
             phase: Phase::Dead(6),
-            ..Session::fresh()
+            ..Session::fresh(&chip.map)
         }
     );
 }
@@ -607,7 +586,7 @@ fn lengths_come_before_constants_and_phase() {
         assert_eq!(chip, before);
     }
     let mut chip = ready();
-    chip.session.read_locks = [true; 2];
+    chip.session.read_locks = vec![true; 7];
     chip.constants[36] = 0;
     let before = chip.clone();
     expect(&mut chip, &[(PowerUp, 0x12, 0), (Read(0x380), 0x12, 0)]);

@@ -2,15 +2,24 @@
 
 use crate::constants::{self, COUNTERS};
 use crate::life_cycle::{self, Token, MOST_STROKES, SCRAP};
-use crate::map::{LIFE_CYCLE, MAP, SECRET0, SECRET2};
+use crate::map::{Kind, Map};
 use crate::model::{Answer, Chip, Phase, NOT_READY};
 use crate::{token, words};
 
-/// Partition of each stored token's hash and its byte address.
-const TEST_UNLOCK: (usize, u32) = (SECRET0, 0x250);
-const TEST_EXIT: (usize, u32) = (SECRET0, 0x260);
-const RMA_TOKEN: (usize, u32) = (SECRET2, 0x2D0);
-pub const STORED_TOKENS: [(usize, u32); 3] = [TEST_UNLOCK, TEST_EXIT, RMA_TOKEN];
+/// The secret that holds each stored token's hash, and how far into it.
+const TEST_UNLOCK: (usize, u32) = (0, 0);
+const TEST_EXIT: (usize, u32) = (0, 16);
+const RMA_TOKEN: (usize, u32) = (2, 0);
+
+/// Partition and byte address of each stored token's hash.
+pub fn stored_tokens(map: &Map) -> [(usize, u32); 3] {
+    [TEST_UNLOCK, TEST_EXIT, RMA_TOKEN].map(|place| in_map(map, place))
+}
+
+fn in_map(map: &Map, (secret, offset): (usize, u32)) -> (usize, u32) {
+    let number = map.number_of(Kind::Secret(secret));
+    (number, map.partitions[number].start + offset)
+}
 
 const WRONG_TARGET: Answer = Answer::refusal(0x11);
 const NO_STROKES: Answer = Answer::refusal(0x20);
@@ -38,7 +47,7 @@ impl Chip {
         if self.session.count == MOST_STROKES {
             return NO_STROKES;
         }
-        let counters_at = MAP[LIFE_CYCLE].data().start;
+        let counters_at = self.map.life_cycle().start;
         let counters = life_cycle::counter_words(&self.constants, self.session.count + 1);
         if let Some(refusal) = self.program(counters_at, &counters) {
             return refusal;
@@ -63,7 +72,7 @@ impl Chip {
 
     fn judge_token(&self, asked: Token, given: u128) -> Option<Answer> {
         let locked = |(partition, _): (usize, u32)| self.session.digests[partition] != 0;
-        if !stored_at(asked).is_none_or(locked) {
+        if !self.stored_at(asked).is_none_or(locked) {
             return Some(TOKEN_NOT_LOCKED);
         }
         let differs = asked != Token::None && token::hash(given) != self.stored_token(asked);
@@ -72,20 +81,21 @@ impl Chip {
 
     /// What the hash of a token is compared with where `asked` is asked for.
     pub fn stored_token(&self, asked: Token) -> u128 {
-        match (stored_at(asked), asked) {
+        match (self.stored_at(asked), asked) {
             (Some((_, address)), _) => words::wide_number(&self.copy[address as usize / 2..]),
             (None, Token::Raw) => constants::raw_token(&self.constants),
             (None, _) => 0,
         }
     }
-}
 
-/// Partition and address of a token held in a secret partition.
-fn stored_at(asked: Token) -> Option<(usize, u32)> {
-    match asked {
-        Token::TestUnlock => Some(TEST_UNLOCK),
-        Token::TestExit => Some(TEST_EXIT),
-        Token::Rma => Some(RMA_TOKEN),
-        Token::None | Token::Raw => None,
+    /// Partition and address of a token held in a secret partition.
+    fn stored_at(&self, asked: Token) -> Option<(usize, u32)> {
+        let place = match asked {
+            Token::TestUnlock => TEST_UNLOCK,
+            Token::TestExit => TEST_EXIT,
+            Token::Rma => RMA_TOKEN,
+            Token::None | Token::Raw => return None,
+        };
+        Some(in_map(&self.map, place))
     }
 }
