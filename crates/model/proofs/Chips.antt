@@ -3,7 +3,7 @@
 use mathlib.Core.Path.{_≡_, refl, sym, ap, ap₂, subst, _∙_}
 use mathlib.Core.Bool.{Bool, true, false, _&&_}
 use mathlib.Core.List.{List, [], _∷_}
-use Prim.Native.Nat.{ℕ, suc, _+_, _*_, _/_, _≤_, _<_}
+use Prim.Native.Nat.{ℕ, _+_, _*_, _/_, _≤_, _<_}
 use native.Mathlib.Omega.{arith}
 use lib.ListN.{length, getD}
 use borrow.Author.Tests.{leb-false, not-false}
@@ -19,7 +19,6 @@ use Rattle.words.proofs.Parts.{part-same}
 use Rattle.words.proofs.Programming.{answer-same, program-length}
 use Rattle.words.proofs.Alike.{Same, program-alike}
 use Rattle.partitions.specs.declared.Kind.the-variants as kind
-use Rattle.partitions.specs.declared.Partition.{Partition}
 use Rattle.partitions.specs.Fitness.{fit}
 use Rattle.partitions.proofs.KindRights.{scrambled-direct, front-hardware, front-not-scrambled, lockable-not-hardware}
 use Rattle.partitions.proofs.Map.{inside, partition-fit, partition-word, direct-known}

@@ -13,7 +13,7 @@ use Rattle.words.proofs.Parts.{part-same}
 use Rattle.partitions.specs.declared.Kind.the-variants as kind
 use Rattle.partitions.specs.Fitness.{fit}
 use Rattle.partitions.proofs.Map.{only, partition-fit, digest-below-ten, life-cycle-partition}
-use Rattle.partitions.specs.Map.{Map, rightsOf, partition, numberOfKind}
+use Rattle.partitions.specs.Map.{Map, partition, numberOfKind}
 use Rattle.model.specs.declared.Session.{Session}
 use Rattle.model.specs.declared.Command.{Command}
 use Rattle.model.specs.declared.Command.the-variants.{PowerUp}

@@ -1,19 +1,18 @@
 -- The old rule in AUTH_STATE data. The idea: a granule there is two words, which a write programs as they are by `KeepBits`; every other command leaves them.
 use mathlib.Core.Path.{_≡_, refl, sym, ap, ap₂, _∙_}
 use mathlib.Core.Bool.{true, false, not, _&&_}
-use mathlib.Core.List.{List, []}
+use mathlib.Core.List.{List}
 use Prim.Native.Nat.{ℕ, _+_, _*_, _/_, _^_, _≤_, _<_}
 use native.Mathlib.Omega.{arith}
 use lib.Dec.{eqb}
 use lib.ListN.{length, getD}
 use borrow.Author.Tests.{leb-false, lt-leb, eqb-true, eqb-false, not-true}
-use Rattle.basics.specs.Choice.{if_then_else_}
-use Rattle.basics.proofs.Choice.{by-cases, true-not-false, and-left, and-right, and-both, and-false, if-true, if-false}
+use Rattle.basics.proofs.Choice.{by-cases, and-left, and-right, and-both, and-false, if-true, if-false}
 use Rattle.words.specs.declared.Rule.{Rule}
 use Rattle.words.specs.declared.Rule.the-variants.{KeepBits, BlankOnly}
 use Rattle.words.specs.declared.Programmed.the-variants as programmed
 use Rattle.words.specs.Words.{wordsOf, partAt}
-use Rattle.words.specs.Programming.{losesBit, programAnswer, programCells, Lowest, Kept}
+use Rattle.words.specs.Programming.{losesBit, programAnswer, programCells, Lowest}
 use Rattle.words.proofs.Words.{length-words}
 use Rattle.words.proofs.Programming.{kept-part, lowest-refused, covered-done, program-takes, program-kept}
 use Rattle.partitions.specs.declared.Kind.the-variants.{AuthState}
@@ -27,9 +26,9 @@ use Rattle.model.specs.declared.Answer.the-variants.{Done, NotBlank}
 use Rattle.model.specs.declared.Command.{Command}
 use Rattle.model.specs.declared.Command.the-variants.{Read, Write, FrontRead, Digest, ReadLock, Transition, PowerUp}
 use Rattle.model.specs.Lent.{Machine, Primitives}
-use Rattle.model.specs.Acts.{stay, turned, Act, afterProgram, perform}
+use Rattle.model.specs.Acts.{turned, afterProgram, perform}
 use Rattle.model.specs.Commands.{directRule, storedDigest, scrambled}
-use Rattle.model.specs.Step.{Step, performed, act, step, after, machineAfter, answerTo}
+use Rattle.model.specs.Step.{performed, act, step, after, machineAfter, answerTo}
 use Rattle.model.specs.Terms.{Right, Cipher, spares, storedWords, Allowed, TakesEffect}
 use Rattle.model.specs.Demand3.{Ready}
 use Rattle.model.specs.OldRule.{InAuthState, twoWords, Gains, stays, gains, OldRule}

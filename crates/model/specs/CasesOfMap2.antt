@@ -1,10 +1,9 @@
 -- The 14 cases of document 01 over Map 2, and cases of what is new there (request Six), in one table. HW_CFG0 stands for HW_CFG, and partition 0 is VENDOR_TEST.
-use Prim.Native.Nat.{ℕ, _-_}
+use Prim.Native.Nat.{ℕ}
 use mathlib.Core.List.{List, [], _∷_, _++_}
 use mathlib.Core.Option.{some}
 use lib.ListN.{replicate}
 use Rattle.partitions.specs.Map2.{map2}
-use Rattle.model.specs.declared.Command.{Command}
 use Rattle.model.specs.declared.Command.the-variants.{Read, Write, FrontRead, Digest, ReadLock, Transition, PowerUp}
 use Rattle.model.specs.Lent.{Primitives, digestStart, digestFinal}
 use Rattle.model.specs.CaseTables.{Case, words, number, blankArray, arrayWith, onBlank, bothSides, secondBurn, whichWord, constants, HoldOn}

@@ -1,6 +1,6 @@
 -- Power-up, "from any phase".
 use Prim.Native.Nat.{ℕ, suc, _+_, _*_, _-_, _/_}
-use mathlib.Core.Bool.{Bool, false, not, _&&_, _||_}
+use mathlib.Core.Bool.{Bool, not, _&&_, _||_}
 use mathlib.Core.List.{List, [], _∷_}
 use mathlib.Core.Option.{Option, none, some}
 use lib.Dec.{eqb}

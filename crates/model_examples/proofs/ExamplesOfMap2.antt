@@ -2,7 +2,7 @@
 use mathlib.Core.Path.{_≡_, refl}
 use mathlib.Core.Bool.{Bool, true, false}
 use mathlib.Core.List.{List, [], _∷_, _++_}
-use Prim.Native.Nat.{ℕ, zero, suc, _≤_, _<_}
+use Prim.Native.Nat.{ℕ, zero, suc, _<_}
 use native.Mathlib.Omega.{arith}
 use lib.Dec.{ltb, lit<}
 use lib.ListN.{getD, set, replicate, List·getD-eq-default}
@@ -10,15 +10,15 @@ use borrow.Author.Tests.{ltb-true, ltb-false}
 use Rattle.basics.proofs.Choice.{by-cases}
 use Rattle.basics.proofs.Range.{all-at}
 use Rattle.words.specs.declared.Rule.the-variants.{KeepBits}
-use Rattle.words.specs.Words.{numberOf, wordsOf, partAt}
+use Rattle.words.specs.Words.{wordsOf, partAt}
 use Rattle.words.specs.Programming.{losesBit, Lowest}
 use Rattle.partitions.specs.Map.{partitionAt, firstWord, wordCount}
 use Rattle.partitions.specs.Map2.{map2}
 use Rattle.partitions.proofs.Maps.{map2-fit}
 use Rattle.model.specs.declared.Phase.the-variants.{Ready}
-use Rattle.model.specs.declared.Answer.the-variants.{Done, NotBlank, Denied, DigestFailed, TokenNotLocked, TokenDiffers}
+use Rattle.model.specs.declared.Answer.the-variants.{Done, NotBlank, Denied, DigestFailed, TokenDiffers}
 use Rattle.model.specs.declared.Command.{Command}
-use Rattle.model.specs.declared.Command.the-variants.{Read, Write, FrontRead, Digest, ReadLock, Transition, PowerUp}
+use Rattle.model.specs.declared.Command.the-variants.{Read, Write, Transition, PowerUp}
 use Rattle.model.specs.Session.{noDigests}
 use Rattle.model.specs.Lent.{Machine}
 use Rattle.model.specs.Commands.{directRule, granule}

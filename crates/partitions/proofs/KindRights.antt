@@ -80,7 +80,3 @@ additive-kind Secret0 e = absurd (true-not-false e refl)
 additive-kind Secret1 e = absurd (true-not-false e refl)
 additive-kind Secret2 e = absurd (true-not-false e refl)
 additive-kind LifeCycle e = absurd (true-not-false e refl)
-
-pub additive-not-hardware : (k : Kind) → rightsOf k .additive ≡ true → rightsOf k .hardware ≡ false
-unfolding rightsOf
-additive-not-hardware k e = not-true _ (granted-with (λ k. rightsOf k .additive) (λ k. not (rightsOf k .hardware)) (tt, tt, tt, tt, tt, tt, tt) k e)

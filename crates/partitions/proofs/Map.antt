@@ -10,7 +10,7 @@ use borrow.Author.Tests.{eqb-true, leb-true, ltb-true, ltb-false, lt-ltb, le-ltb
 use Rattle.basics.specs.Choice.{if_then_else_}
 use Rattle.basics.proofs.Choice.{by-cases, true-not-false, not-passed, and-left, and-right, and-both, and-three, if-true, if-false}
 use Rattle.partitions.specs.declared.Partition.{Partition}
-use Rattle.partitions.specs.declared.Kind.the-variants.{Secret0, Secret1, Secret2, LifeCycle}
+use Rattle.partitions.specs.declared.Kind.the-variants.{Secret0, Secret1, LifeCycle}
 use Rattle.partitions.specs.Map.{Map, rightsOf, holds, numberAt, nowhere, partition, partitionAt, limit, numberOfKind}
 use Rattle.partitions.specs.Fitness.{placed, digested, lifeCycleWords, fitFrom, once, fit}
 use Rattle.partitions.proofs.KindRights.{life-cycle-direct}
@@ -190,12 +190,6 @@ inside-from (p ∷ q ∷ ps) at a h l u =
     by-cases (ltb a (p .end)) (λ t. inside-here p (q ∷ ps) a (f .1) (omega (arith, f .0)) (ltb-true _ _ t))
     (λ t. let m = ltb-false _ _ t in inside-there p (q ∷ ps) a m (rest m u))
 
-direct-from : (map : Map) (at n : ℕ) → fitFrom at map ≡ true → suc n < length map → rightsOf (partition map n .kind) .direct ≡ true
-unfolding partition
-direct-from [] at n h l = absurd (omega arith)
-direct-from (p ∷ ps) at zero h l = fit-rest at p ps (omega arith) h .0
-direct-from (p ∷ ps) at (suc n) h l = direct-from ps (p .end) n (fit-rest at p ps (omega arith) h .1) (omega arith)
-
 last-from : (map : Map) (at n : ℕ) → fitFrom at map ≡ true → suc n ≡ length map → LastPartition map n
 unfolding fitFrom partition limit
 last-from [] at n h e = absurd (omega arith)
@@ -277,9 +271,6 @@ module _ (map : Map) (fits : fit map ≡ true) where
 
   pub end-within : {n : ℕ} → n < length map → partition map n .end ≤ limit map
   end-within {n} h = member-from map 0 n from-zero h .within
-
-  pub direct-before-last : {n : ℕ} → suc n < length map → rightsOf (partition map n .kind) .direct ≡ true
-  direct-before-last {n} h = direct-from map 0 n from-zero h
 
   pub last-partition : {n : ℕ} → suc n ≡ length map → LastPartition map n
   last-partition {n} e = last-from map 0 n from-zero e

@@ -1,10 +1,10 @@
 -- Maps that are not fit, each by one clause of fitness: a map that is fit, changed in one place. The test is computed.
 use mathlib.Core.Path.{_≡_, refl}
-use mathlib.Core.Bool.{Bool, true, false}
-use mathlib.Core.List.{List, [], _∷_, _++_}
+use mathlib.Core.Bool.{true, false}
+use mathlib.Core.List.{[], _∷_}
 use Rattle.basics.specs.Choice.{if_then_else_}
 use Rattle.partitions.specs.declared.Kind.the-variants.{Software, AuthState, HwCfg, Secret0, Secret1, Secret2, LifeCycle}
-use Rattle.partitions.specs.Map.{Map, row, rightsOf, nowhere, partition, limit, kindNumber, numberOfKind}
+use Rattle.partitions.specs.Map.{row, rightsOf, nowhere, partition, limit, kindNumber, numberOfKind}
 use Rattle.partitions.specs.Fitness.{placed, digested, lifeCycleWords, fitFrom, countOfKind, once, fit}
 
 -- one name on an `unfolding` line opens the test

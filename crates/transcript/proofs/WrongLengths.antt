@@ -9,7 +9,6 @@ use native.Mathlib.Omega.{arith}
 use lib.Dec.{eqb, lit<}
 use lib.ListN.{length, replicate}
 use borrow.Author.Tests.{eq-eqb, ne-eqb, eqb-true}
-use Rattle.basics.specs.Choice.{if_then_else_}
 use Rattle.basics.proofs.Choice.{and-false, if-true, if-false, if-both}
 use Rattle.partitions.specs.declared.MapName.the-variants.{Map1, Map2}
 use Rattle.partitions.specs.Map.{Map, limit}

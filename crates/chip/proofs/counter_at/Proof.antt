@@ -1,9 +1,4 @@
 -- The start of the life cycle's partition, in words.
-use mathlib.Core.Path.{ap, _∙_}
-use Prim.Native.Nat.{ℕ, _/_}
-use Rattle.partitions.specs.declared.Partition.{Partition}
-use Rattle.partitions.specs.Map.{partition}
-use Rattle.partitions.specs.Maps.{mapOf}
 use Rattle.model.specs.Commands.{counterAt}
 use borrow.Author.Needs.{needs}
 use Rattle.chip.proofs.counter_at.Statement.{statement}

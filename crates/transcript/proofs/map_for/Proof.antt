@@ -3,7 +3,6 @@ use mathlib.Core.Path.{sym}
 use borrow.Author.Tests.{eq-eqb, ne-eqb}
 use Rattle.basics.proofs.Choice.{if-true, if-false}
 use Rattle.transcript.specs.Transcript.{mapFor}
-use borrow.Author.Needs.{needs}
 use Rattle.transcript.proofs.map_for.Statement.{statement}
 use Rattle.transcript.proofs.map_for.Tie as tie
 

@@ -2,7 +2,6 @@
 use mathlib.Core.Path.{sym, ap, _∙_}
 use lib.ListN.{length}
 use Rattle.partitions.specs.declared.MapName.{MapName}
-use Rattle.partitions.specs.Map.{numberAt, partition, limit, numberOfKind}
 use Rattle.partitions.specs.Maps.{mapOf}
 use Rattle.partitions.proofs.Maps.{map1-length, map2-length}
 use borrow.Author.Needs.{needs}

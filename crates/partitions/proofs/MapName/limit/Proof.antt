@@ -1,8 +1,7 @@
 -- Each arm is the end of its map.
 use mathlib.Core.Path.{sym, ap, _∙_}
-use lib.ListN.{length}
 use Rattle.partitions.specs.declared.MapName.{MapName}
-use Rattle.partitions.specs.Map.{numberAt, partition, limit, numberOfKind}
+use Rattle.partitions.specs.Map.{limit}
 use Rattle.partitions.specs.Maps.{mapOf}
 use Rattle.partitions.proofs.Maps.{map1-limit, map2-limit}
 use borrow.Author.Needs.{needs}

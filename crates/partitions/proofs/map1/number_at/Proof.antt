@@ -2,7 +2,7 @@
 use mathlib.Core.Path.{_≡_}
 use Prim.Native.Nat.{ℕ, _≤_, _<_}
 use native.Mathlib.Omega.{arith}
-use Rattle.partitions.specs.Map.{numberAt, partition, limit}
+use Rattle.partitions.specs.Map.{numberAt, partition}
 use Rattle.partitions.specs.Map1.{map1}
 use Rattle.partitions.proofs.Maps.{map1-fit, map1-limit, map1-length, in-range, past-end}
 use Rattle.partitions.proofs.map1.number_at.Statement.{statement}

@@ -2,7 +2,7 @@
 use mathlib.Core.Path.{_≡_}
 use Prim.Native.Nat.{ℕ, _≤_, _<_}
 use native.Mathlib.Omega.{arith}
-use Rattle.partitions.specs.Map.{numberAt, partition, limit}
+use Rattle.partitions.specs.Map.{numberAt, partition}
 use Rattle.partitions.specs.Map2.{map2}
 use Rattle.partitions.proofs.Maps.{map2-fit, map2-limit, map2-length, in-range, past-end}
 use Rattle.partitions.proofs.map2.number_at.Statement.{statement}
