@@ -161,14 +161,14 @@ token-refused = refl
 
 -- ---- a digest that differs: the partition of the map in use is named, each of 5 to 9
 
-digest-named :
+failed-digests-named :
     (answerTo toy map2 PowerUp (off2 (arrayWith 740 0x240 (2 ∷ []))) ≡ DigestFailed 5)
     × (answerTo toy map2 PowerUp (off2 (arrayWith 740 0x248 (2 ∷ []))) ≡ DigestFailed 6)
     × (answerTo toy map2 PowerUp (off2 (arrayWith 740 0x25C (2 ∷ []))) ≡ DigestFailed 7)
     × (answerTo toy map2 PowerUp (off2 (arrayWith 740 0x288 (2 ∷ []))) ≡ DigestFailed 8)
     × (answerTo toy map2 PowerUp (off2 (arrayWith 740 0x2B4 (2 ∷ []))) ≡ DigestFailed 9)
 unfolding everything map2
-digest-named = (refl, refl, refl, refl, refl)
+failed-digests-named = (refl, refl, refl, refl, refl)
 
 -- and no other digest is checked: those of 0 to 4
 digest-unchecked :
