@@ -64,8 +64,8 @@ fn may_read(session: Session, number: usize, partition: Partition, address: usiz
     let kind = partition.kind;
     let rights = kind.rights();
     let locked = rights.scrambled & (session.sensed_at(number) != 0);
-    let shut = rights.lockable & session.read_locked(number);
-    let data = !shut & !locked;
+    let read_locked = rights.lockable & session.read_locked(number);
+    let data = !read_locked & !locked;
     rights.direct & ((partition.digest <= address) | data)
 }
 
@@ -111,7 +111,7 @@ fn read_value(cells: &[u16], constants: &[u16], partition: Partition, address: u
     chip::unscrambled(constants, partition, stored)
 }
 
-// The rule of refusal for a write: data that keep the old rule, and all else.
+// The rule of refusal for a write: the old one for data of a kind that keeps it, else the new one.
 fn rule_at(partition: Partition, address: usize) -> Rule
     ensures { λ r. ⌜ r ≡ directRule partition address ⌝ }
 {
@@ -163,7 +163,7 @@ pub fn read(
     }
 }
 
-// Write: programs the granule of an address, if it is blank; a 4-byte granule uses the low half of the value.
+// Write: programs the granule of an address, if its words take the value by the rule of the place; a 4-byte granule uses the low half of the value.
 pub fn write(
     cells: &mut [u16],
     copy: &[u16],
@@ -198,7 +198,7 @@ pub fn write(
     }
 }
 
-// Front read: the granule of an address in HW_CFG data, in the sensed copy.
+// Front read: the granule of an address in data of the kind HW_CFG, in the sensed copy.
 pub fn front_read(
     cells: &[u16],
     copy: &[u16],

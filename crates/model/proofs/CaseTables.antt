@@ -19,7 +19,7 @@ use Rattle.model.specs.Lent.{Machine, Primitives, rightLengths, rawUnloc
 use Rattle.model.specs.Acts.{halt, say, perform, noting}
 use Rattle.model.specs.Commands.{lifeCycleRule, counterAt, hashesTo, moveAct}
 use Rattle.model.specs.Step.{Step, performed, obey}
-use Rattle.model.specs.CaseTables.{Case, blankArray, constants, said, leaves, chipOf, HoldOn}
+use Rattle.model.specs.CaseTables.{Case, blankArray, constants, said, leaves, offChip, HoldOn}
 use Rattle.model.proofs.Obeyed.{obeyed, obeyedAnswers, run-obeyed}
 use Rattle.model.proofs.Everything.{everything}
 
@@ -48,7 +48,7 @@ module _ (prims : Primitives) (keys : ℕ → ℕ) where
     -- what is computed of a case: its lengths are right, and its commands, obeyed, answer and leave what it says
     abbrev pub Row : Case → Type 0
     Row c =
-        let m = chipOf prims keys size (c .cells) in
+        let m = offChip prims keys size (c .cells) in
         (rightLengths partitions (m .lent) ≡ true)
         × (map (said prims keys) (obeyedAnswers prims partitions (c .commands) m) ≡ c .expected)
         × leaves prims keys (c .left) (obeyed prims partitions (c .commands) m .lent .cells)
@@ -71,7 +71,7 @@ module _ (prims : Primitives) (keys : ℕ → ℕ) where
     pub held : (cs : List Case) → Rows cs → HoldOn prims keys partitions size cs
     held [] h = tt
     held (c ∷ cs) h =
-        let m = chipOf prims keys size (c .cells) in
+        let m = offChip prims keys size (c .cells) in
         let r = h .0 in
         let q = run-obeyed prims partitions (c .commands) m (r .0) valid in
         let cells = ap (λ (n : Machine). n .lent .cells) (q .1) in
@@ -81,7 +81,7 @@ module _ (prims : Primitives) (keys : ℕ → ℕ) where
 
     -- the blank chip after a power-up, and a transition from RAW to TEST_UNLOCKED0 there, with the result of its comparison
     abbrev pub woken : Machine
-    woken = obey prims partitions PowerUp (chipOf prims keys size (blankArray size)) .result .machine
+    woken = obey prims partitions PowerUp (offChip prims keys size (blankArray size)) .result .machine
 
     abbrev pub unlocking : Bool → Step
     unlocking result =

@@ -8,7 +8,7 @@ use Rattle.partitions.specs.Map1.{map1}
 use Rattle.model.specs.declared.Command.the-variants.{Read, Write, FrontRead, Digest, ReadLock, Transition, PowerUp}
 use Rattle.model.specs.Lent.{Primitives}
 use Rattle.model.specs.Step.{obey}
-use Rattle.model.specs.CaseTables.{Case, bothSides, secondBurn, whichWord}
+use Rattle.model.specs.CaseTables.{Case, off, bothSides, secondBurn, whichWord}
 use Rattle.model.specs.Cases.{paper, hardware, lockedFirst, table, Hold, blankDigest}
 use Rattle.model.proofs.CaseTables.{_&_, same, right-same, wrong-differs, Part, both, held, woken, unlocking, unlocked}
 use Rattle.model.proofs.Everything.{everything}
@@ -75,9 +75,9 @@ module _ (prims : Primitives) (keys : ℕ → ℕ) where
   unfolding everything
   last-named = record { rows = (refl, refl, refl) & (refl, refl, refl) & (refl, refl, refl) & (refl, refl, refl) & tt }
 
-  locked-first : Part prims keys map1 448 (lockedFirst ∷ [])
+  locked-first : Part prims keys map1 448 (lockedFirst ∷ off 448 ∷ [])
   unfolding everything
-  locked-first = record { rows = (refl, refl, tt) & tt }
+  locked-first = record { rows = (refl, refl, tt) & (refl, refl, tt) & tt }
 
   -- the digest is a number of 64 bits, the hash of the right token one of 128 bits, and the wrong token has another
   pub cases : blankDigest prims keys < 2 ^ 64 → prims .hash 7 < 2 ^ 128 → (prims .hash 8 ≡ prims .hash 7 → ⊥) → Hold prims keys (table (blankDigest prims keys))

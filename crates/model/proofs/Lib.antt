@@ -19,6 +19,7 @@ pub mod Device
 pub mod Refusals
 pub mod Deaths
 pub mod Quiet
+pub mod TokenPlaces
 pub mod ReadLocks
 pub mod OldRule
 pub mod Theorems

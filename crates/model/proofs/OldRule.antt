@@ -2,11 +2,12 @@
 use mathlib.Core.Path.{_≡_, refl, sym, ap, ap₂, _∙_}
 use mathlib.Core.Bool.{true, false, not, _&&_}
 use mathlib.Core.List.{List}
-use Prim.Native.Nat.{ℕ, _+_, _*_, _/_, _^_, _≤_, _<_}
+use Prim.Native.Nat.{ℕ, _+_, _*_, _/_, _≤_, _<_}
+use native.Mathlib.Nat.{le-refl}
 use native.Mathlib.Omega.{arith}
 use lib.Dec.{eqb}
 use lib.ListN.{length, getD}
-use borrow.Author.Tests.{leb-false, lt-leb, eqb-true, eqb-false, not-true}
+use borrow.Author.Tests.{leb-false, le-leb, lt-leb, eqb-true, eqb-false, not-true}
 use Rattle.basics.proofs.Choice.{by-cases, and-left, and-right, and-both, and-false, if-true, if-false}
 use Rattle.words.specs.declared.Rule.{Rule}
 use Rattle.words.specs.declared.Rule.the-variants.{KeepBits, BlankOnly}
@@ -25,18 +26,18 @@ use Rattle.partitions.proofs.Granules.{OneGranule, size-words, granule-inside, 
 use Rattle.model.specs.declared.Answer.the-variants.{Done, NotBlank}
 use Rattle.model.specs.declared.Command.{Command}
 use Rattle.model.specs.declared.Command.the-variants.{Read, Write, FrontRead, Digest, ReadLock, Transition, PowerUp}
-use Rattle.model.specs.Lent.{Machine, Primitives}
+use Rattle.model.specs.Lent.{Machine, Primitives, rightLengths}
 use Rattle.model.specs.Acts.{turned, afterProgram, perform}
-use Rattle.model.specs.Commands.{directRule, storedDigest, scrambled}
-use Rattle.model.specs.Step.{performed, act, step, after, machineAfter, answerTo}
+use Rattle.model.specs.Commands.{directRule, digestRule, storedDigest, scrambled}
+use Rattle.model.specs.Step.{Step, unchanged, performed, act, obey, step, after, machineAfter, answerTo}
 use Rattle.model.specs.Terms.{Right, Cipher, spares, storedWords, Allowed, TakesEffect}
 use Rattle.model.specs.Demand3.{Ready}
 use Rattle.model.specs.OldRule.{InAuthState, twoWords, Gains, stays, gains, OldRule}
 use Rattle.model.proofs.Acts.{Burnt, left, burnt, perform-once}
-use Rattle.model.proofs.Targets.{Written, write-once}
-use Rattle.model.proofs.Steps.{outcome, cells-length, after-right}
+use Rattle.model.proofs.Targets.{Written, write-once, digest-rule}
+use Rattle.model.proofs.Steps.{outcome, lengths-of, step-right-lengths, after-right}
 use Rattle.model.proofs.Ready.{step-act, Fresh, first-fresh, after-fresh}
-use Rattle.model.proofs.Writes.{write-decided, step-stays, write-taken}
+use Rattle.model.proofs.Writes.{write-decided, write-takes, step-stays}
 
 -- ---- the rule of a place
 
@@ -53,6 +54,9 @@ old-auth-state p a e =
   where
     new-not-old : BlankOnly ≡ KeepBits → ⊥
     new-not-old e = let z : _≡_ {A = ℕ} 0 1 = cc in omega arith
+
+digest-new : (p : Partition) → directRule p (p .digest) ≡ digestRule
+digest-new p = digest-rule p (p .digest) (unfold inDigest in (le-leb _ _ (le-refl (p .digest))))
 
 module _ (prims : Primitives) (C : Cipher prims) (map : Map) (F : fit map ≡ true) where
   -- ---- the granule of an address there
@@ -96,7 +100,7 @@ module _ (prims : Primitives) (C : Cipher prims) (map : Map) (F : fit map ≡ tr
 
   -- ---- one command
 
-  module _ {a : ℕ} (i : InAuthState map a) (m : Machine) (r : Right map m) where
+  module _ {a : ℕ} (i : InAuthState map a) (m : Machine) where
     abbrev cells : List ℕ
     cells = m .lent .cells
 
@@ -131,11 +135,12 @@ module _ (prims : Primitives) (C : Cipher prims) (map : Map) (F : fit map ≡ tr
       place-same = sym (place there) ∙ same ∙ place i
 
     -- a write that is done has become the two words
-    written : (b value : ℕ) {rule : Rule} {at : ℕ} {words : List ℕ} {answer : ℕ} → Written prims map m b value rule at words answer
+    written : rightLengths map (m .lent) ≡ true → (b value : ℕ) {rule : Rule} {at : ℕ} {words : List ℕ} {answer : ℕ}
+        → Written prims map m b value rule at words answer
         → firstWord (partitionAt map b) b ≡ firstWord (partitionAt map a) a
         → programAnswer rule cells at words ≡ programmed.Done
         → Gains a (twoWords cells a) (Write b value) (Done 0) (twoWords (programCells rule cells at words) a)
-    written b value {rule} {at} {words} w same done =
+    written right b value {rule} {at} {words} w same done =
         let t = there (w .below) same in
         let spot : at ≡ a / 4 * 2 = w .place ∙ place t ∙ place-same (w .below) same in
         let whole : words ≡ wordsOf 2 value = w .holds ∙ as-given t (m .lent .constants) value in
@@ -146,22 +151,24 @@ module _ (prims : Primitives) (C : Cipher prims) (map : Map) (F : fit map ≡ tr
         (rw taken at (kept-part (program-kept rule cells (wordsOf 2 value) (a / 4 * 2)) (a / 4 * 2) 2)))
       where
         inside-cells : a / 4 * 2 + 2 ≤ length cells
-        inside-cells = omega (arith, granule-within map F (i .below), place i, count i, cells-length prims map m r)
+        inside-cells = omega (arith, granule-within map F (i .below), place i, count i, lengths-of prims map (m .lent) right .0)
 
     write-gains : (b value : ℕ)
         → Gains a (twoWords cells a) (Write b value) (answerTo prims map (Write b value) m) (twoWords (machineAfter prims map (Write b value) m .lent .cells) a)
-    unfolding act performed
     write-gains b value =
         by-cases (eqb (firstWord (partitionAt map b) b) (firstWord (partitionAt map a) a))
-        (λ t. rw (machineAfter, answerTo, step-act prims map (Write b value) m r tt)
-        (done (eqb-true _ _ t) (perform-once (write-once prims map m b value) (m .lent .copy) cells)))
+        (λ t. step-right-lengths prims map After (Write b value) m (λ answer. unfold unchanged in stays)
+        (λ right. unfold obey act performed in (done right (eqb-true _ _ t) (perform-once (write-once prims map m b value) (m .lent .copy) cells))))
         (λ t. spared (Write b value) (λ e. absurd (eqb-false _ _ t e)))
       where
-        done : firstWord (partitionAt map b) b ≡ firstWord (partitionAt map a) a
+        After : Step → Type 0
+        After s = Gains a (twoWords cells a) (Write b value) (s .result .answer) (twoWords (s .result .machine .lent .cells) a)
+
+        done : rightLengths map (m .lent) ≡ true → firstWord (partitionAt map b) b ≡ firstWord (partitionAt map a) a
             → Burnt (Written prims map m b value) cells (outcome prims map (Write b value) m)
             → Gains a (twoWords cells a) (Write b value) (outcome prims map (Write b value) m .answer) (twoWords (outcome prims map (Write b value) m .cells) a)
-        done same (left e) = rw e stays
-        done same (burnt w k f e) = rw (f, e, w .answer) (written b value w same k)
+        done right same (left e) = rw e stays
+        done right same (burnt w k f e) = rw (f, e, w .answer) (written right b value w same k)
 
     step-gains : (x : Command) → Gains a (twoWords cells a) x (answerTo prims map x m) (twoWords (machineAfter prims map x m .lent .cells) a)
     step-gains (Read b) = spared (Read b) tt
@@ -181,8 +188,8 @@ module _ (prims : Primitives) (C : Cipher prims) (map : Map) (F : fit map ≡ tr
   clears-refused {a} i c₀ m f z value j low =
       let e = write-decided prims C map F c₀ m f a value (i .below) (direct i) (not-digest i) z in
       let q = lowest-refused KeepBits (wordsOf 2 value) (m .lent .cells) (a / 4 * 2) j low in
-      rw (machineAfter, answerTo, step-act prims map (Write a value) m (f .right) tt, e, auth-state-old (partitionAt map a) a (i .isAuthState) (i .isData), place i, as-given i (m .lent .constants) value, q)
-      (refl, refl)
+      let old = auth-state-old (partitionAt map a) a (i .isAuthState) (i .isData) in
+      rw (machineAfter, answerTo, step-act prims map (Write a value) m (f .right) tt, e, old, place i, as-given i (m .lent .constants) value, q) (refl, refl)
 
   -- ---- a write on a Ready chip: any commands l₀, a power-up that answers 0, commands l₁ while Ready lasts
 
@@ -196,18 +203,18 @@ module _ (prims : Primitives) (C : Cipher prims) (map : Map) (F : fit map ≡ tr
     fresh : Fresh map c₀ m₁
     fresh = after-fresh prims map F c₀ l₁ _ (ready .lasts) (first-fresh prims map F _ (after-right prims map l₀ m r) (ready .woke))
 
-    adding-taken : (value : ℕ) → value < 2 ^ 64 → storedDigest (partitionAt map a) c₀ ≡ 0
+    adding-taken : (value : ℕ) → storedDigest (partitionAt map a) c₀ ≡ 0
         → ((j : ℕ) → j < 2 → losesBit (getD (twoWords (m₁ .lent .cells) a) j 0) (getD (wordsOf 2 value) j 0) ≡ false)
         → TakesEffect prims map m₁ a value (step prims map (Write a value) m₁)
-    adding-taken value v z h = write-taken prims C map F m r l₀ l₁ ready a value v allowed
+    adding-taken value z h = write-takes prims C map F c₀ m₁ fresh a value allowed
       where
-        allowed : Allowed prims map (m .lent .constants) c₀ (m₁ .lent .cells) a value
+        allowed : Allowed prims map (m₁ .lent .constants) c₀ (m₁ .lent .cells) a value
         allowed = record {
           below = i .below;
           direct = direct i;
           notDigest = not-digest i;
           unlocked = z;
-          blank = rw (auth-state-old (partitionAt map a) a (i .isAuthState) (i .isData), place i, as-given i (m .lent .constants) value)
+          takes = rw (auth-state-old (partitionAt map a) a (i .isAuthState) (i .isData), place i, as-given i (m₁ .lent .constants) value)
               (covered-done (wordsOf 2 value) (m₁ .lent .cells) (a / 4 * 2) (λ j l. rw length-words (h j (rw length-words at l))));
         }
 
@@ -220,7 +227,8 @@ module _ (prims : Primitives) (C : Cipher prims) (map : Map) (F : fit map ≡ tr
   old-rule = record {
     there = auth-state-old;
     only = old-auth-state;
-    granules = λ m r l x a i. step-gains i (after prims map l m) (after-right prims map l m r) x;
-    taken = λ m r l₀ l₁ ready a value v i z h. adding-taken m r l₀ l₁ ready i value v z h;
+    digests = digest-new;
+    granules = λ m l x a i. step-gains i (after prims map l m) x;
+    taken = λ m r l₀ l₁ ready a value i z h. adding-taken m r l₀ l₁ ready i value z h;
     refused = λ m r l₀ l₁ ready a value i z j low. clearing-refused m r l₀ l₁ ready i value z j low;
   }

@@ -5,7 +5,7 @@ use mathlib.Core.List.{List, [], _∷_, _++_}
 use Prim.Native.Nat.{ℕ, _/_}
 use lib.Dec.{eqb}
 use lib.ListN.{length}
-use borrow.Author.Tests.{eqb-true, eq-eqb}
+use borrow.Author.Tests.{eqb-true, eq-eqb, not-false}
 use Rattle.basics.proofs.Choice.{if-both, if-false, and-three}
 use Rattle.basics.proofs.Range.{length-listed}
 use Rattle.words.specs.Programming.{Kept}
@@ -74,6 +74,14 @@ module _ (prims : Primitives) (map : Map) where
       → ((answer : Answer) → judged (codeOf answer) ≡ true → Q (unchanged answer m)) → Q (powerUp prims map m) → Q (act prims map x m) → Q (step prims map x m)
   step-all Q x m u h f = step-both Q x m u (obey-both (λ s _. Q s) x m m h f)
 
+  -- what holds where what is lent is refused, and where its lengths are right of the command obeyed
+  pub step-right-lengths : (Q : Step → Type 0) (x : Command) (m : Machine) → ((answer : Answer) → Q (unchanged answer m))
+      → (rightLengths map (m .lent) ≡ true → Q (obey prims map x m)) → Q (step prims map x m)
+  unfolding step
+  step-right-lengths Q x m u h =
+      if-both Q (not (rightLengths map (m .lent))) _ _ (λ e. u WrongLength)
+      (λ e. if-both Q (not (validConstants (m .lent .constants))) _ _ (λ v. u InvalidConstants) (λ v. h (not-false _ e)))
+
   -- with right lengths and valid constants the command is obeyed
   pub judged-obeys : (x : Command) (m : Machine) → rightLengths map (m .lent) ≡ true → validConstants (m .lent .constants) ≡ true
       → step prims map x m ≡ obey prims map x m
@@ -105,7 +113,7 @@ module _ (prims : Primitives) (map : Map) where
 
   -- ---- lengths and constants stay right
 
-  lengths-of : (l : Lent) → rightLengths map l ≡ true
+  pub lengths-of : (l : Lent) → rightLengths map l ≡ true
       → (length (l .cells) ≡ limit map / 2) × (length (l .copy) ≡ limit map / 2) × (length (l .constants) ≡ 132)
   unfolding rightLengths
   lengths-of l e =

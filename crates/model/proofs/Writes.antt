@@ -112,7 +112,7 @@ module _ (prims : Primitives) (C : Cipher prims) (map : Map) (F : fit map ≡ tr
   unfolding perform
   write-performed c₀ m f a value al =
       ap (λ (x : Act). perform x (m .lent .copy) (m .lent .cells)) (write-decided c₀ m f a value (al .below) (al .direct) (al .notDigest) (al .unlocked))
-      ∙ after-done _ _ (al .blank)
+      ∙ after-done _ _ (al .takes)
 
   pub write-takes : (c₀ : List ℕ) (m : Machine) → Fresh map c₀ m → (a value : ℕ) → Allowed prims map (m .lent .constants) c₀ (m .lent .cells) a value
       → TakesEffect prims map m a value (step prims map (Write a value) m)
@@ -130,7 +130,7 @@ module _ (prims : Primitives) (C : Cipher prims) (map : Map) (F : fit map ≡ tr
       held : partAt (programCells (directRule (partitionAt map a) a) (m .lent .cells) i vs) i (wordCount (partitionAt map a) a) ≡ vs
       held =
           let inside = granule-within map F (al .below) in
-          rw length-words at (program-takes (directRule (partitionAt map a) a) (m .lent .cells) vs i (rw length-words (omega (arith, inside, cells-length prims map m (f .right)))) (al .blank))
+          rw length-words at (program-takes (directRule (partitionAt map a) a) (m .lent .cells) vs i (rw length-words (omega (arith, inside, cells-length prims map m (f .right)))) (al .takes))
 
   -- ---- what leaves the granule alone
 

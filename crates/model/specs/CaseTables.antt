@@ -9,7 +9,7 @@ use Rattle.words.specs.Words.{wordsOf}
 use Rattle.partitions.specs.Map.{Map}
 use Rattle.model.specs.declared.Answer.{Answer}
 use Rattle.model.specs.declared.Command.{Command}
-use Rattle.model.specs.declared.Command.the-variants.{Read, Write, PowerUp}
+use Rattle.model.specs.declared.Command.the-variants.{Read, Write, FrontRead, Digest, ReadLock, Transition, PowerUp}
 use Rattle.model.specs.Answers.{codeOf, valueOf}
 use Rattle.model.specs.Session.{freshSession}
 use Rattle.model.specs.Lent.{Machine, Primitives}
@@ -41,6 +41,12 @@ module _ (size : ℕ) where
   abbrev pub onBlank : List Command → List (ℕ × ℕ) → Case
   onBlank commands expected = record { cells = blankArray; commands = commands; expected = expected; left = none }
 
+  -- "A fresh record is Off": before a power-up every other command answers 7.
+  abbrev pub off : Case
+  off =
+      onBlank (Read 0 ∷ Write 0 1 ∷ FrontRead 0 ∷ Digest 0 ∷ ReadLock 0 ∷ Transition 1 0 7 ∷ [])
+      ((0x07, 0) ∷ (0x07, 0) ∷ (0x07, 0) ∷ (0x07, 0) ∷ (0x07, 0) ∷ (0x07, 0) ∷ [])
+
   -- Request Two, both sides of 0x0F8 and 0x0FC, in the partition of 0x100 bytes that starts at s.
   module _ (s : ℕ) where
     -- a write of the number leaves these words from this address on, and no others
@@ -68,7 +74,8 @@ module _ (size : ℕ) where
           left = none;
         }
         -- One half is not written after the other, nor both (request Three); the word named is the first of the digest (request Five).
-        ∷ onBlank (PowerUp ∷ Write (s + 0xF8) 1 ∷ Write (s + 0xFC) 0x100000000 ∷ Write (s + 0xF8) 0x100000001 ∷ []) ((0x00, 0) ∷ (0x00, 0) ∷ (0x04, (s + 0xF8) / 2) ∷ (0x04, (s + 0xF8) / 2) ∷ [])
+        ∷ onBlank (PowerUp ∷ Write (s + 0xF8) 1 ∷ Write (s + 0xFC) 0x100000000 ∷ Write (s + 0xF8) 0x100000001 ∷ [])
+        ((0x00, 0) ∷ (0x00, 0) ∷ (0x04, (s + 0xF8) / 2) ∷ (0x04, (s + 0xF8) / 2) ∷ [])
         -- A digest whose low half is zero locks like any other.
         ∷ onBlank (PowerUp ∷ Write (s + 0xF8) 0x100000000 ∷ PowerUp ∷ Write (s + 0xF7) 1 ∷ Write (s + 0xF8) 0x100000001 ∷ [])
         ((0x00, 0) ∷ (0x00, 0) ∷ (0x00, 0) ∷ (0x05, 0) ∷ (0x05, 0) ∷ [])
@@ -119,13 +126,13 @@ module _ (prims : Primitives) (keys : ℕ → ℕ) where
   leaves (some left) cells = cells ≡ left
 
   -- a chip of so many words with these cells, switched off
-  abbrev pub chipOf : ℕ → List ℕ → Machine
-  chipOf size cells = record { lent = record { cells = cells; copy = replicate size 0; constants = constants }; session = freshSession }
+  abbrev pub offChip : ℕ → List ℕ → Machine
+  offChip size cells = record { lent = record { cells = cells; copy = replicate size 0; constants = constants }; session = freshSession }
 
   -- every case of a table holds on a chip with this map
   abbrev pub HoldOn : Map → ℕ → List Case → Type 0
   HoldOn partitions size [] = Unit {0}
   HoldOn partitions size (c ∷ cs) =
-      ((map said (answers prims partitions (c .commands) (chipOf size (c .cells))) ≡ c .expected)
-      × leaves (c .left) (after prims partitions (c .commands) (chipOf size (c .cells)) .lent .cells))
+      ((map said (answers prims partitions (c .commands) (offChip size (c .cells))) ≡ c .expected)
+      × leaves (c .left) (after prims partitions (c .commands) (offChip size (c .cells)) .lent .cells))
       × HoldOn partitions size cs

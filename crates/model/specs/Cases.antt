@@ -7,7 +7,7 @@ use Rattle.partitions.specs.Map1.{map1}
 use Rattle.model.specs.declared.Command.{Command}
 use Rattle.model.specs.declared.Command.the-variants.{Read, Write, FrontRead, Digest, ReadLock, Transition, PowerUp}
 use Rattle.model.specs.Lent.{Machine, Primitives, digestStart, digestFinal}
-use Rattle.model.specs.CaseTables.{Case, blankArray, onBlank, bothSides, secondBurn, whichWord, constants, chipOf, HoldOn}
+use Rattle.model.specs.CaseTables.{Case, blankArray, onBlank, off, bothSides, secondBurn, whichWord, constants, offChip, HoldOn}
 
 -- 448 words
 abbrev pub blank : List ℕ
@@ -73,11 +73,11 @@ lockedFirst =
 unfoldable pub table : ℕ → List Case
 table digest =
     paper ++ bothSides 448 0x000 ++ bothSides 448 0x100 ++ (hardware digest ∷ []) ++ secondBurn 448 0x000 ++ secondBurn 448 0x200
-    ++ whichWord 448 0x250 ++ whichWord 448 0x318 ++ (lockedFirst ∷ [])
+    ++ whichWord 448 0x250 ++ whichWord 448 0x318 ++ (lockedFirst ∷ off 448 ∷ [])
 
 module _ (prims : Primitives) (keys : ℕ → ℕ) where
   abbrev pub chip : List ℕ → Machine
-  chip = chipOf prims keys 448
+  chip = offChip prims keys 448
 
   abbrev pub Hold : List Case → Type 0
   Hold = HoldOn prims keys map1 448

@@ -1,4 +1,4 @@
--- The 14 cases of document 01 over Map 2, and cases of what is new there (request Six), in one table. HW_CFG0 stands for HW_CFG, and partition 0 is VENDOR_TEST.
+-- The 14 cases of document 01 over Map 2, and cases of what is new there (request Six), in one table. HW_CFG0 stands for HW_CFG, partition 0 is VENDOR_TEST.
 use Prim.Native.Nat.{ℕ}
 use mathlib.Core.List.{List, [], _∷_, _++_}
 use mathlib.Core.Option.{some}
@@ -6,7 +6,7 @@ use lib.ListN.{replicate}
 use Rattle.partitions.specs.Map2.{map2}
 use Rattle.model.specs.declared.Command.the-variants.{Read, Write, FrontRead, Digest, ReadLock, Transition, PowerUp}
 use Rattle.model.specs.Lent.{Primitives, digestStart, digestFinal}
-use Rattle.model.specs.CaseTables.{Case, words, number, blankArray, arrayWith, onBlank, bothSides, secondBurn, whichWord, constants, HoldOn}
+use Rattle.model.specs.CaseTables.{Case, words, number, blankArray, arrayWith, onBlank, off, bothSides, secondBurn, whichWord, constants, HoldOn}
 
 -- count 24, state RAW: from word 696 (0x570) on, 24 counter words that are all D and 20 state words that are zero
 abbrev pub spentOfMap2 : List ℕ
@@ -54,7 +54,8 @@ authStateRows =
     -- Bits are added, by any address of the granule, and after a power-up too; a value that lacks one is refused, and leaves the words.
     record {
       cells = blankArray 740;
-      commands = PowerUp ∷ Write 0x418 0x0F ∷ Write 0x41B 0xF0 ∷ Write 0x418 0x1F ∷ Write 0x418 0x1F ∷ PowerUp ∷ Write 0x41A 0xFF ∷ Write 0x418 0 ∷ Read 0x419 ∷ [];
+      commands =
+          PowerUp ∷ Write 0x418 0x0F ∷ Write 0x41B 0xF0 ∷ Write 0x418 0x1F ∷ Write 0x418 0x1F ∷ PowerUp ∷ Write 0x41A 0xFF ∷ Write 0x418 0 ∷ Read 0x419 ∷ [];
       expected = (0x00, 0) ∷ (0x00, 0) ∷ (0x04, 0x20C) ∷ (0x00, 0) ∷ (0x00, 0) ∷ (0x00, 0) ∷ (0x00, 0) ∷ (0x04, 0x20C) ∷ (0x00, 0xFF) ∷ [];
       left = some (arrayWith 740 0x20C (0xFF ∷ []));
     }
@@ -62,7 +63,8 @@ authStateRows =
     ∷ onBlank 740 (PowerUp ∷ Write 0x434 0x10001 ∷ Write 0x434 0x00003 ∷ Write 0x437 0 ∷ Write 0x434 0x30003 ∷ Read 0x434 ∷ [])
     ((0x00, 0) ∷ (0x00, 0) ∷ (0x04, 0x21B) ∷ (0x04, 0x21A) ∷ (0x00, 0) ∷ (0x00, 0x30003) ∷ [])
     -- The digest behind them is written once, in one piece, and locks from the next power-up on.
-    ∷ onBlank 740 (PowerUp ∷ Write 0x438 1 ∷ Write 0x43C 3 ∷ Write 0x418 1 ∷ Write 0x418 3 ∷ PowerUp ∷ Write 0x418 7 ∷ Write 0x43F 3 ∷ Read 0x418 ∷ Read 0x43C ∷ [])
+    ∷ onBlank 740
+    (PowerUp ∷ Write 0x438 1 ∷ Write 0x43C 3 ∷ Write 0x418 1 ∷ Write 0x418 3 ∷ PowerUp ∷ Write 0x418 7 ∷ Write 0x43F 3 ∷ Read 0x418 ∷ Read 0x43C ∷ [])
     ((0x00, 0) ∷ (0x00, 0) ∷ (0x04, 0x21C) ∷ (0x00, 0) ∷ (0x00, 0) ∷ (0x00, 0) ∷ (0x05, 0) ∷ (0x05, 0) ∷ (0x00, 3) ∷ (0x00, 1) ∷ [])
     -- The digest before them, CODESIGN's, is written once.
     ∷ onBlank 740 (PowerUp ∷ Write 0x417 1 ∷ Write 0x410 3 ∷ []) ((0x00, 0) ∷ (0x00, 0) ∷ (0x04, 0x208) ∷ [])
@@ -71,23 +73,25 @@ authStateRows =
 -- "The first five are unbuffered and read-lockable": 0 to 4 take a read lock, and no other number.
 abbrev pub readLockRows : List Case
 readLockRows =
-    onBlank 740 (PowerUp ∷ ReadLock 1 ∷ ReadLock 2 ∷ ReadLock 3 ∷ ReadLock 5 ∷ ReadLock 6 ∷ ReadLock 7 ∷ ReadLock 9 ∷ ReadLock 10 ∷ ReadLock 11 ∷ ReadLock 255 ∷ [])
-    ((0x00, 0) ∷ (0x00, 0) ∷ (0x00, 0) ∷ (0x00, 0) ∷ (0x05, 0) ∷ (0x05, 0) ∷ (0x05, 0) ∷ (0x05, 0) ∷ (0x05, 0) ∷ (0x05, 0) ∷ (0x05, 0) ∷ [])
+    onBlank 740
+    (PowerUp ∷ ReadLock 1 ∷ ReadLock 2 ∷ ReadLock 3 ∷ ReadLock 5 ∷ ReadLock 6 ∷ ReadLock 7 ∷ ReadLock 8 ∷ ReadLock 9 ∷ ReadLock 10 ∷ ReadLock 11 ∷ ReadLock 255 ∷ [])
+    ((0x00, 0) ∷ (0x00, 0) ∷ (0x00, 0) ∷ (0x00, 0) ∷ (0x05, 0) ∷ (0x05, 0) ∷ (0x05, 0) ∷ (0x05, 0) ∷ (0x05, 0) ∷ (0x05, 0) ∷ (0x05, 0) ∷ (0x05, 0) ∷ [])
     -- Lock 4 stops reads of AUTH_STATE data, not of its digest or its neighbours, and no write; a power-up clears it.
     ∷ onBlank 740 (PowerUp ∷ ReadLock 4 ∷ Read 0x418 ∷ Read 0x437 ∷ Read 0x438 ∷ Read 0x417 ∷ Read 0x440 ∷ Write 0x418 1 ∷ PowerUp ∷ Read 0x418 ∷ [])
     ((0x00, 0) ∷ (0x00, 0) ∷ (0x05, 0) ∷ (0x05, 0) ∷ (0x00, 0) ∷ (0x00, 0) ∷ (0x00, 0) ∷ (0x00, 0) ∷ (0x00, 0) ∷ (0x00, 1) ∷ [])
     ∷ []
 
--- "A front read reaches both HW_CFG parts": their data, first and last bytes; not their digests and not the partitions beside them. HW_CFG1 has 8 bytes of data.
+-- "A front read reaches both HW_CFG parts": their data, first and last bytes; not their digests, nor the partitions beside them. HW_CFG1 has 8 bytes of data.
 abbrev pub frontReadRows : List Case
 frontReadRows =
-    onBlank 740 (PowerUp ∷ Write 0x47C 0x99 ∷ Write 0x488 0x11 ∷ Write 0x48F 0x22 ∷ FrontRead 0x488 ∷ PowerUp ∷ FrontRead 0x440 ∷ FrontRead 0x47F ∷ FrontRead 0x488 ∷ FrontRead 0x48F ∷ [])
+    onBlank 740
+    (PowerUp ∷ Write 0x47C 0x99 ∷ Write 0x488 0x11 ∷ Write 0x48F 0x22 ∷ FrontRead 0x488 ∷ PowerUp ∷ FrontRead 0x440 ∷ FrontRead 0x47F ∷ FrontRead 0x488 ∷ FrontRead 0x48F ∷ [])
     ((0x00, 0) ∷ (0x00, 0) ∷ (0x00, 0) ∷ (0x00, 0) ∷ (0x00, 0) ∷ (0x00, 0) ∷ (0x00, 0) ∷ (0x00, 0x99) ∷ (0x00, 0x11) ∷ (0x00, 0x22) ∷ [])
     ∷ onBlank 740 (PowerUp ∷ FrontRead 0x43F ∷ FrontRead 0x480 ∷ FrontRead 0x487 ∷ FrontRead 0x490 ∷ FrontRead 0x498 ∷ FrontRead 0x570 ∷ FrontRead 0x5C8 ∷ [])
     ((0x00, 0) ∷ (0x05, 0) ∷ (0x05, 0) ∷ (0x05, 0) ∷ (0x05, 0) ∷ (0x05, 0) ∷ (0x05, 0) ∷ (0x05, 0) ∷ [])
     ∷ []
 
--- Where the data and the digests of VENDOR_TEST and CODESIGN end: the last data write has 4 bytes, a digest write 8.
+-- Where the data and the digests of VENDOR_TEST, OWNER_SW_CFG and CODESIGN end: the last data write has 4 bytes, a digest write 8.
 abbrev pub edgeRows : List Case
 edgeRows =
     record {
@@ -119,7 +123,7 @@ hwCfg1Digest digest =
 unfoldable pub tableOfMap2 : ℕ → List Case
 tableOfMap2 digest =
     paperOnMap2 ++ authStateRows ++ readLockRows ++ frontReadRows ++ edgeRows ++ bothSides 740 0x140 ++ secondBurn 740 0x440 ++ whichWord 740 0x560
-    ++ (hwCfg1Digest digest ∷ [])
+    ++ (hwCfg1Digest digest ∷ off 740 ∷ [])
 
 module _ (prims : Primitives) (keys : ℕ → ℕ) where
   abbrev pub HoldOnMap2 : List Case → Type 0

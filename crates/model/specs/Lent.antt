@@ -20,7 +20,8 @@ pub record Machine : Type 0 where
   pub lent : Lent
   pub session : Session
 
--- "Cells: exactly 448 words .. Sensed copy: exactly 448 words .. Constants: exactly 132 words."
+-- "Cells: exactly 448 words .. Sensed copy: exactly 448 words .. Constants: exactly 132 words." That is Map 1: "0x10, 0x06 and the address limit read from
+-- the map in use; where 01 or Two numbers or counts partitions, their kind decides." (request Six)
 unfoldable pub rightLengths : Map → Lent → Bool
 rightLengths map l = eqb (length (l .cells)) (limit map / 2) && eqb (length (l .copy)) (limit map / 2) && eqb (length (l .constants)) 132
 

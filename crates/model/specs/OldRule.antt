@@ -1,6 +1,6 @@
 -- "AUTH_STATE data, like LIFE_CYCLE, keeps the old rule under Three and Five." (request Six) Claims over lists that rest on the new rule have it as a premise;
 -- what holds of AUTH_STATE data stands here.
-use Prim.Native.Nat.{ℕ, _*_, _/_, _^_, _<_}
+use Prim.Native.Nat.{ℕ, _*_, _/_, _<_}
 use mathlib.Core.Path.{_≡_}
 use mathlib.Core.Bool.{false}
 use mathlib.Core.List.{List}
@@ -16,7 +16,7 @@ use Rattle.model.specs.declared.Answer.the-variants.{Done, NotBlank}
 use Rattle.model.specs.declared.Command.{Command}
 use Rattle.model.specs.declared.Command.the-variants.{Write, PowerUp}
 use Rattle.model.specs.Lent.{Machine, Primitives}
-use Rattle.model.specs.Commands.{directRule, storedDigest}
+use Rattle.model.specs.Commands.{directRule, digestRule, storedDigest}
 use Rattle.model.specs.Step.{step, after, machineAfter, answerTo}
 use Rattle.model.specs.Terms.{Right, TakesEffect}
 use Rattle.model.specs.Demand3.{Ready}
@@ -42,12 +42,14 @@ module _ (prims : Primitives) (map : Map) where
     -- a direct access write has the old rule in AUTH_STATE data, and nowhere else
     pub there : (p : Partition) (a : ℕ) → p .kind ≡ AuthState → a < p .digest → directRule p a ≡ KeepBits
     pub only : (p : Partition) (a : ℕ) → directRule p a ≡ KeepBits → (p .kind ≡ AuthState) × (a < p .digest)
+    -- a digest has one rule, whether a write or a digest command is to program it
+    pub digests : (p : Partition) → directRule p (p .digest) ≡ digestRule
     -- a granule of AUTH_STATE data only gains bits, whatever the list, and only by a write to it
-    pub granules : (m : Machine) → Right map m → (l : List Command) (x : Command) (a : ℕ) → InAuthState map a
+    pub granules : (m : Machine) (l : List Command) (x : Command) (a : ℕ) → InAuthState map a
         → let m₁ = after prims map l m in
         Gains a (twoWords (m₁ .lent .cells) a) x (answerTo prims map x m₁) (twoWords (machineAfter prims map x m₁ .lent .cells) a)
     -- on a Ready chip, where the last power-up found the partition's digest zero, a write there that clears no bit takes effect
-    pub taken : (m : Machine) → Right map m → (l₀ l₁ : List Command) → Ready prims map m l₀ l₁ → (a value : ℕ) → value < 2 ^ 64 → InAuthState map a
+    pub taken : (m : Machine) → Right map m → (l₀ l₁ : List Command) → Ready prims map m l₀ l₁ → (a value : ℕ) → InAuthState map a
         → let m₀ = after prims map l₀ m in
         let m₁ = after prims map l₁ (machineAfter prims map PowerUp m₀) in
         storedDigest (partitionAt map a) (m₀ .lent .cells) ≡ 0

@@ -19,7 +19,7 @@ use Rattle.model.specs.declared.Phase.the-variants.{Ready, Dead}
 use Rattle.model.specs.declared.Session.{Session}
 use Rattle.model.specs.declared.Answer.{Answer}
 use Rattle.model.specs.declared.Answer.the-variants.{Done, DigestFailed, LifeCycleFailed}
-use Rattle.model.specs.Session.{noDigests, noLocks}
+use Rattle.model.specs.Session.{entries, noDigests, noLocks}
 use Rattle.model.specs.Lent.{Lent, Primitives}
 use Rattle.model.specs.Commands.{granule, storedDigest, computedDigest, unscrambled, counterAt, stateAt}
 
@@ -27,9 +27,9 @@ use Rattle.model.specs.Commands.{granule, storedDigest, computedDigest, 
 unfoldable pub sensedDigest : List ℕ → Partition → ℕ
 sensedDigest cells p = if rightsOf (p .kind) .direct then storedDigest p cells else 0
 
--- by the numbers of the partitions, as many as the record has
+-- by the numbers of the partitions, as many as the record has entries; 0 past the last partition
 unfoldable pub digests : List ℕ → Map → List ℕ
-digests cells map = listed (λ n. sensedDigest cells (partition map n)) 0 10
+digests cells map = listed (λ n. sensedDigest cells (partition map n)) 0 entries
 
 -- how a power-up ends: dead, with a reason and an answer, or ready with a state and a count
 pub data Waking : Type 0 where

@@ -17,12 +17,16 @@ reasonCode BitCleared = 4
 reasonCode DigestFailed = 6
 reasonCode LifeCycleFailed = 7
 
+-- how many sensed digests, and how many read locks
+abbrev pub entries : ℕ
+entries = 10
+
 -- nothing is sensed, nothing is read-locked
 abbrev pub noDigests : List ℕ
-noDigests = replicate 10 0
+noDigests = replicate entries 0
 
 abbrev pub noLocks : List Bool
-noLocks = replicate 10 false
+noLocks = replicate entries false
 
 -- "A fresh record is Off, all else zero."
 abbrev pub freshSession : Session
@@ -35,7 +39,7 @@ isReady Ready = true
 isReady Inert = false
 isReady (Dead reason) = false
 
--- the sensed digest of a partition by its number; LIFE_CYCLE has none, and so 0
+-- the sensed digest of a partition by its number; 0 past the record's entries
 unfoldable pub sensedAt : Session → ℕ → ℕ
 sensedAt s number = getD (s .sensed) number 0
 

@@ -102,7 +102,7 @@ module _ (prims : Primitives) (map : Map) where
     pub direct : rightsOf (partitionAt map a .kind) .direct ≡ true
     pub notDigest : (rightsOf (partitionAt map a .kind) .hardware && inDigest (partitionAt map a) a) ≡ false
     pub unlocked : storedDigest (partitionAt map a) c₀ ≡ 0
-    pub blank : programAnswer (directRule (partitionAt map a) a) c (firstWord (partitionAt map a) a) (storedWords prims map constants a value) ≡ programmed.Done
+    pub takes : programAnswer (directRule (partitionAt map a) a) c (firstWord (partitionAt map a) a) (storedWords prims map constants a value) ≡ programmed.Done
 
   -- "It takes effect: it answers 0, its granule holds the data, scrambled where secret, and no other cell changes."
   pub record TakesEffect (m : Machine) (a value : ℕ) (s : Step) : Type 0 where

@@ -18,8 +18,8 @@ pub enum Phase {
     Dead(Reason),
 }
 
-// How many sensed digests, and how many read locks, a record has: by the number of the partition, for all partitions of a fit map but the last.
-pub const DIGESTS: usize = 10;
+// How many sensed digests, and how many read locks, a record has: as many as a fit map may have partitions before the last.
+pub const ENTRIES: usize = 10;
 
 // The session record: phase, sensed digests, read locks, life cycle state and stroke count.
 pub struct Session {
@@ -78,22 +78,22 @@ impl Session {
         }
     }
 
-    // The sensed digest of a partition; LIFE_CYCLE has none, and so 0.
+    // The sensed digest of a partition by its number; 0 past the entries.
     pub fn sensed_at(self, number: usize) -> u64
         ensures { λ r. ⌜ r ≡ sensedAt self number ⌝ }
     {
-        if number < DIGESTS {
+        if number < ENTRIES {
             self.sensed[number]
         } else {
             0
         }
     }
 
-    // The read lock of a partition; it counts where the partition's kind has one.
+    // The read lock of a partition by its number; it counts where the partition's kind has one.
     pub fn read_locked(self, number: usize) -> bool
         ensures { λ r. ⌜ r ≡ readLocked self number ⌝ }
     {
-        if number < DIGESTS {
+        if number < ENTRIES {
             self.locks[number]
         } else {
             false

@@ -8,7 +8,7 @@ use Rattle.partitions.specs.Map2.{map2}
 use Rattle.model.specs.declared.Command.the-variants.{Read, Write, FrontRead, Digest, ReadLock, Transition, PowerUp}
 use Rattle.model.specs.Lent.{Primitives}
 use Rattle.model.specs.Step.{obey}
-use Rattle.model.specs.CaseTables.{Case, bothSides, secondBurn, whichWord}
+use Rattle.model.specs.CaseTables.{Case, off, bothSides, secondBurn, whichWord}
 use Rattle.model.specs.CasesOfMap2.{paperOnMap2, authStateRows, readLockRows, frontReadRows, edgeRows, hwCfg1Digest, tableOfMap2, HoldOnMap2, blankHwCfg1Digest}
 use Rattle.model.proofs.CaseTables.{_&_, same, right-same, wrong-differs, Part, both, held, woken, unlocking, unlocked}
 use Rattle.model.proofs.Everything.{everything}
@@ -69,11 +69,11 @@ module _ (prims : Primitives) (keys : ℕ → ℕ) where
   last-named = record { rows = (refl, refl, refl) & (refl, refl, refl) & (refl, refl, refl) & (refl, refl, refl) & tt }
 
   -- the words of a number of 64 bits stand for it
-  hw-cfg1-digest : blankHwCfg1Digest prims keys < 2 ^ 64 → Part prims keys map2 740 (hwCfg1Digest (blankHwCfg1Digest prims keys) ∷ [])
+  hw-cfg1-digest : blankHwCfg1Digest prims keys < 2 ^ 64 → Part prims keys map2 740 (hwCfg1Digest (blankHwCfg1Digest prims keys) ∷ off 740 ∷ [])
   unfolding everything map2
   hw-cfg1-digest h =
       let d = blankHwCfg1Digest prims keys in
-      record { rows = (refl, ap (λ (x : ℕ). (0x00, 0) ∷ (0x00, d) ∷ (0x00, 0) ∷ (0x00, x) ∷ (0x00, x) ∷ []) (number-block d h), tt) & tt }
+      record { rows = (refl, ap (λ (x : ℕ). (0x00, 0) ∷ (0x00, d) ∷ (0x00, 0) ∷ (0x00, x) ∷ (0x00, x) ∷ []) (number-block d h), tt) & (refl, refl, tt) & tt }
 
   pub cases-of-map2 : blankHwCfg1Digest prims keys < 2 ^ 64 → prims .hash 7 < 2 ^ 128 → (prims .hash 8 ≡ prims .hash 7 → ⊥)
       → HoldOnMap2 prims keys (tableOfMap2 (blankHwCfg1Digest prims keys))

@@ -63,7 +63,7 @@ woken = record { woke = refl; lasts = tt }
 
 allowed : Allowed toy map1 (off blank .lent .constants) blank (machineAfter toy map1 PowerUp (off blank) .lent .cells) 0x003 0x55
 unfolding everything
-allowed = record { below = lit< tt; direct = refl; notDigest = refl; unlocked = refl; blank = refl }
+allowed = record { below = lit< tt; direct = refl; notDigest = refl; unlocked = refl; takes = refl }
 
 wrote : Machine
 wrote = machineAfter toy map1 (Write 0x003 0x55) (machineAfter toy map1 PowerUp (off blank))
@@ -128,7 +128,7 @@ stored-on = toy-beyond .lasting (off blank) (right blank refl) [] [] woken 0x003
 -- a write of zero leaves its granule blank: it reads 0 as long as no other write to the granule answers 0
 allowed-zero : Allowed toy map1 (off blank .lent .constants) blank (machineAfter toy map1 PowerUp (off blank) .lent .cells) 0x003 0
 unfolding everything
-allowed-zero = record { below = lit< tt; direct = refl; notDigest = refl; unlocked = refl; blank = refl }
+allowed-zero = record { below = lit< tt; direct = refl; notDigest = refl; unlocked = refl; takes = refl }
 
 wrote-zero : Machine
 wrote-zero = machineAfter toy map1 (Write 0x003 0) (machineAfter toy map1 PowerUp (off blank))

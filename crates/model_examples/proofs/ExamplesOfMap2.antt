@@ -23,7 +23,7 @@ use Rattle.model.specs.Session.{noDigests}
 use Rattle.model.specs.Lent.{Machine}
 use Rattle.model.specs.Commands.{directRule, granule}
 use Rattle.model.specs.Step.{step, after, answers, machineAfter, answerTo}
-use Rattle.model.specs.CaseTables.{arrayWith, chipOf}
+use Rattle.model.specs.CaseTables.{arrayWith, offChip}
 use Rattle.model.specs.Terms.{Right, Lasts, Spared, usedValue, Allowed, TakesEffect}
 use Rattle.model.specs.Demand3 as demand
 use Rattle.model.specs.Beyond.{Beyond}
@@ -35,11 +35,11 @@ use Rattle.model.proofs.OldRule.{old-rule}
 use Rattle.model_examples.proofs.Examples.{toy-cipher}
 
 -- the chip with these cells, switched off
-abbrev off2 : List ℕ → Machine
-off2 cells = chipOf toy (λ i. 0) 740 cells
+abbrev off-map2 : List ℕ → Machine
+off-map2 cells = offChip toy (λ i. 0) 740 cells
 
-abbrev new : Machine
-new = off2 (replicate 740 0)
+abbrev blank-chip : Machine
+blank-chip = off-map2 (replicate 740 0)
 
 abbrev toy-old-rule : OldRule toy map2
 toy-old-rule = old-rule toy toy-cipher map2 map2-fit
@@ -47,14 +47,14 @@ toy-old-rule = old-rule toy toy-cipher map2 map2-fit
 abbrev toy-beyond : Beyond toy map2
 toy-beyond = beyond toy toy-cipher map2 map2-fit
 
-right : Right map2 new
+right : Right map2 blank-chip
 unfolding everything map2
 right = record {
   lengths = refl;
   valid = refl;
   words = λ i.
-      by-cases (ltb i 132) (λ t. ltb-true _ _ (all-at 132 (λ j. ltb (getD (new .lent .constants) j 0) 65536) tt i (ltb-true _ _ t)))
-      (λ t. rw (List·getD-eq-default (new .lent .constants) 0 {n = i} (ltb-false _ _ t)) (lit< tt));
+      by-cases (ltb i 132) (λ t. ltb-true _ _ (all-at 132 (λ j. ltb (getD (blank-chip .lent .constants) j 0) 65536) tt i (ltb-true _ _ t)))
+      (λ t. rw (List·getD-eq-default (blank-chip .lent .constants) 0 {n = i} (ltb-false _ _ t)) (lit< tt));
 }
 
 -- ---- AUTH_STATE data: 0x0F at 0x418 of a blank chip
@@ -70,17 +70,17 @@ old = toy-old-rule .there (partitionAt map2 0x437) 0x437 refl (lit< tt)
 -- a write to the granule, and what it makes of the two words
 gained : Gains 0x41B (0 ∷ 0 ∷ []) (Write 0x418 0x0F) (Done 0) (0x0F ∷ 0 ∷ [])
 unfolding everything map2
-gained = toy-old-rule .granules new right (PowerUp ∷ []) (Write 0x418 0x0F) 0x41B there
+gained = toy-old-rule .granules blank-chip (PowerUp ∷ []) (Write 0x418 0x0F) 0x41B there
 
 first : List Command
 first = Write 0x418 0x0F ∷ []
 
-ready : demand.Ready toy map2 new [] first
+ready : demand.Ready toy map2 blank-chip [] first
 unfolding everything map2 Lasts first
 ready = record { woke = refl; lasts = (tt, tt) }
 
 abbrev wrote : Machine
-wrote = after toy map2 first (machineAfter toy map2 PowerUp new)
+wrote = after toy map2 first (machineAfter toy map2 PowerUp blank-chip)
 
 -- 0x1F adds a bit to 0x0F
 loses-none : (i : ℕ) → i < 2 → losesBit (getD (twoWords (wrote .lent .cells) 0x41B) i 0) (getD (wordsOf 2 0x1F) i 0) ≡ false
@@ -91,7 +91,7 @@ loses-none (suc (suc i)) l = absurd (omega arith)
 
 added : TakesEffect toy map2 wrote 0x41B 0x1F (step toy map2 (Write 0x41B 0x1F) wrote)
 unfolding first after
-added = toy-old-rule .taken new right [] first ready 0x41B 0x1F (lit< tt) there (unfold everything map2 in refl) loses-none
+added = toy-old-rule .taken blank-chip right [] first ready 0x41B 0x1F there (unfold everything map2 in refl) loses-none
 
 -- 0xF0 clears bits of it
 lowest : Lowest KeepBits (wrote .lent .cells) 0x20C (wordsOf 2 0xF0) 0x20C
@@ -100,37 +100,37 @@ lowest = record { from = omega arith; to = omega arith; refusing = refl; lower =
 
 cleared : answerTo toy map2 (Write 0x41B 0xF0) wrote ≡ NotBlank 0x20C
 unfolding first after
-cleared = toy-old-rule .refused new right [] first ready 0x41B 0xF0 there (unfold everything map2 in refl) 0x20C lowest .0
+cleared = toy-old-rule .refused blank-chip right [] first ready 0x41B 0xF0 there (unfold everything map2 in refl) 0x20C lowest .0
 
 -- what was stored is what is read, while no other write there answers 0: one that clears a bit, and a power-up
-allowed : Allowed toy map2 (new .lent .constants) (replicate 740 0) (machineAfter toy map2 PowerUp new .lent .cells) 0x418 0x0F
+allowed : Allowed toy map2 (blank-chip .lent .constants) (replicate 740 0) (machineAfter toy map2 PowerUp blank-chip .lent .cells) 0x418 0x0F
 unfolding everything map2
-allowed = record { below = lit< tt; direct = refl; notDigest = refl; unlocked = refl; blank = refl }
+allowed = record { below = lit< tt; direct = refl; notDigest = refl; unlocked = refl; takes = refl }
 
-woken : demand.Ready toy map2 new [] []
+woken : demand.Ready toy map2 blank-chip [] []
 unfolding everything map2 Lasts
 woken = record { woke = refl; lasts = tt }
 
 sparing : List Command
 sparing = Write 0x419 0xF0 ∷ PowerUp ∷ []
 
-spared : Spared toy map2 0x418 sparing (step toy map2 (Write 0x418 0x0F) (machineAfter toy map2 PowerUp new) .result .machine)
+spared : Spared toy map2 0x418 sparing (step toy map2 (Write 0x418 0x0F) (machineAfter toy map2 PowerUp blank-chip) .result .machine)
 unfolding everything map2 Spared sparing
 spared = (λ same done. omega arith, (tt, tt))
 
-reads-on : answerTo toy map2 (Read 0x41A) (after toy map2 sparing (step toy map2 (Write 0x418 0x0F) (machineAfter toy map2 PowerUp new) .result .machine)) ≡ Done 0x0F
+reads-on : answerTo toy map2 (Read 0x41A) (after toy map2 sparing (step toy map2 (Write 0x418 0x0F) (machineAfter toy map2 PowerUp blank-chip) .result .machine)) ≡ Done 0x0F
 unfolding everything map2 sparing
 reads-on = refl
 
 stored-on : 0x0F ≡ usedValue map2 0x418 0x0F
 unfolding after
 stored-on =
-    toy-beyond .lasting new right [] [] woken 0x418 0x0F (lit< tt) allowed sparing (λ z. spared) (λ e. spared) 0x41A 0x0F (unfold everything map2 in refl) reads-on
+    toy-beyond .lasting blank-chip right [] [] woken 0x418 0x0F (lit< tt) allowed sparing (λ z. spared) (λ e. spared) 0x41A 0x0F (unfold everything map2 in refl) reads-on
 
 -- ---- the digest behind it: the new rule, so that it never changes
 
 abbrev digested : Machine
-digested = after toy map2 (PowerUp ∷ Write 0x438 1 ∷ []) new
+digested = after toy map2 (PowerUp ∷ Write 0x438 1 ∷ []) blank-chip
 
 held : granule (partitionAt map2 0x43C) (digested .lent .cells) 0x43C ≡ 1
 unfolding everything map2
@@ -141,45 +141,69 @@ digest-stays : let p = partitionAt map2 0x43C in
     ≡ partAt (digested .lent .cells) (firstWord p 0x43C) (wordCount p 0x43C)
 unfolding after
 digest-stays =
-    toy-beyond .granules new 0x43C (unfold everything map2 in (lit< tt)) (unfold everything map2 in refl) (unfold everything map2 in refl)
+    toy-beyond .granules blank-chip 0x43C (unfold everything map2 in (lit< tt)) (unfold everything map2 in refl) (unfold everything map2 in refl)
     (PowerUp ∷ Write 0x438 1 ∷ []) (Write 0x438 3 ∷ PowerUp ∷ []) (λ z. omega (arith, held))
 
 -- ---- a token of a locked partition: TEST_LOCKED0 goes to TEST_UNLOCKED1. SECRET0 starts at word 0x24C; TEST_UNLOCK is 0x71, whose hash 0x70 is stored with
 -- its lowest bit flipped in each block; TEST_LOCKED0 stands after two strokes
 
-tested2 : List ℕ
-tested2 =
+tested-map2 : List ℕ
+tested-map2 =
     replicate 0x24C 0 ++ (0x71 ∷ 0 ∷ 0 ∷ 0 ∷ 1 ∷ 0 ∷ 0 ∷ 0 ∷ []) ++ replicate 8 0 ++ (1 ∷ replicate 91 0) ++ (3 ∷ 3 ∷ replicate 22 1) ++ (3 ∷ 3 ∷ replicate 18 1)
 
-token-taken : answers toy map2 (PowerUp ∷ Transition 3 0 0x71 ∷ PowerUp ∷ []) (off2 tested2) ≡ Done 514 ∷ Done 0 ∷ Done 771 ∷ []
-unfolding everything map2 tested2
+token-taken : answers toy map2 (PowerUp ∷ Transition 3 0 0x71 ∷ PowerUp ∷ []) (off-map2 tested-map2) ≡ Done 514 ∷ Done 0 ∷ Done 771 ∷ []
+unfolding everything map2 tested-map2
 token-taken = refl
 
-token-refused : answers toy map2 (PowerUp ∷ Transition 3 0 0x70 ∷ PowerUp ∷ []) (off2 tested2) ≡ Done 514 ∷ TokenDiffers ∷ Done 770 ∷ []
-unfolding everything map2 tested2
+token-refused : answers toy map2 (PowerUp ∷ Transition 3 0 0x70 ∷ PowerUp ∷ []) (off-map2 tested-map2) ≡ Done 514 ∷ TokenDiffers ∷ Done 770 ∷ []
+unfolding everything map2 tested-map2
 token-refused = refl
 
--- ---- a digest that differs: the partition of the map in use is named, each of 5 to 9
+-- TEST_EXIT, 0x91, eight words further on: TEST_UNLOCKED0 goes to DEV
+exiting : List ℕ
+exiting = replicate 0x254 0 ++ (0x91 ∷ 0 ∷ 0 ∷ 0 ∷ 1 ∷ 0 ∷ 0 ∷ 0 ∷ []) ++ (1 ∷ replicate 91 0) ++ (3 ∷ replicate 23 1) ++ (3 ∷ replicate 19 1)
+
+exit-taken :
+    (answers toy map2 (PowerUp ∷ Transition 16 0 0x91 ∷ PowerUp ∷ []) (off-map2 exiting) ≡ Done 257 ∷ Done 0 ∷ Done 528 ∷ [])
+    × (answers toy map2 (PowerUp ∷ Transition 16 0 0x90 ∷ PowerUp ∷ []) (off-map2 exiting) ≡ Done 257 ∷ TokenDiffers ∷ Done 513 ∷ [])
+unfolding everything map2 exiting
+exit-taken = (refl, refl)
+
+-- the RMA token, 0x81, at the start of SECRET2, word 0x28C, which is locked, and SECRET0 open: DEV goes to RMA
+returning : List ℕ
+returning =
+    replicate 0x28C 0 ++ (0x81 ∷ 0 ∷ 0 ∷ 0 ∷ 1 ∷ 0 ∷ 0 ∷ 0 ∷ []) ++ replicate 32 0 ++ (1 ∷ 0 ∷ 0 ∷ 0 ∷ []) ++ (3 ∷ replicate 23 1) ++ (replicate 16 3 ++ replicate 4 1)
+
+rma-taken :
+    (answers toy map2 (PowerUp ∷ Transition 19 0 0x81 ∷ PowerUp ∷ []) (off-map2 returning) ≡ Done 272 ∷ Done 0 ∷ Done 531 ∷ [])
+    × (answers toy map2 (PowerUp ∷ Transition 19 0 0x80 ∷ PowerUp ∷ []) (off-map2 returning) ≡ Done 272 ∷ TokenDiffers ∷ Done 528 ∷ [])
+unfolding everything map2 returning
+rma-taken = (refl, refl)
+
+-- ---- a digest that differs: the partition of the map in use is named, each of 5 to 9, and of two the first
 
 failed-digests-named :
-    (answerTo toy map2 PowerUp (off2 (arrayWith 740 0x240 (2 ∷ []))) ≡ DigestFailed 5)
-    × (answerTo toy map2 PowerUp (off2 (arrayWith 740 0x248 (2 ∷ []))) ≡ DigestFailed 6)
-    × (answerTo toy map2 PowerUp (off2 (arrayWith 740 0x25C (2 ∷ []))) ≡ DigestFailed 7)
-    × (answerTo toy map2 PowerUp (off2 (arrayWith 740 0x288 (2 ∷ []))) ≡ DigestFailed 8)
-    × (answerTo toy map2 PowerUp (off2 (arrayWith 740 0x2B4 (2 ∷ []))) ≡ DigestFailed 9)
+    (answerTo toy map2 PowerUp (off-map2 (arrayWith 740 0x240 (2 ∷ []))) ≡ DigestFailed 5)
+    × (answerTo toy map2 PowerUp (off-map2 (arrayWith 740 0x248 (2 ∷ []))) ≡ DigestFailed 6)
+    × (answerTo toy map2 PowerUp (off-map2 (arrayWith 740 0x25C (2 ∷ []))) ≡ DigestFailed 7)
+    × (answerTo toy map2 PowerUp (off-map2 (arrayWith 740 0x288 (2 ∷ []))) ≡ DigestFailed 8)
+    × (answerTo toy map2 PowerUp (off-map2 (arrayWith 740 0x2B4 (2 ∷ []))) ≡ DigestFailed 9)
+    × (answerTo toy map2 PowerUp (off-map2 (set (arrayWith 740 0x248 (2 ∷ [])) 0x288 2)) ≡ DigestFailed 6)
 unfolding everything map2
-failed-digests-named = (refl, refl, refl, refl, refl)
+failed-digests-named = (refl, refl, refl, refl, refl, refl)
 
--- and no other digest is checked: those of 0 to 4
+-- and no other digest is checked: those of 0 to 4 lock
 digest-unchecked :
-    answers toy map2 (PowerUp ∷ Write 0x000 1 ∷ Write 0x418 1 ∷ []) (off2 (set (set (replicate 740 0) 0x01C 2) 0x21C 2)) ≡ Done 0 ∷ Denied ∷ Denied ∷ []
+    answers toy map2 (PowerUp ∷ Write 0x000 1 ∷ Write 0x040 1 ∷ Write 0x140 1 ∷ Write 0x240 1 ∷ Write 0x418 1 ∷ [])
+    (off-map2 (set (set (set (set (set (replicate 740 0) 0x01C 2) 0x09C 2) 0x11C 2) 0x208 2) 0x21C 2))
+    ≡ Done 0 ∷ Denied ∷ Denied ∷ Denied ∷ Denied ∷ Denied ∷ []
 unfolding everything map2
 digest-unchecked = refl
 
 -- ---- a record whose read locks are all set: that of a partition without a read lock says nothing
 
 abbrev with-locks : Bool → Machine
-with-locks lock = record { lent = new .lent; session = record { phase = Ready; sensed = noDigests; locks = replicate 10 lock; state = 0; count = 0 } }
+with-locks lock = record { lent = blank-chip .lent; session = record { phase = Ready; sensed = noDigests; locks = replicate 10 lock; state = 0; count = 0 } }
 
 locks-that-count : answers toy map2 (Read 0x000 ∷ Read 0x040 ∷ Read 0x140 ∷ Read 0x240 ∷ Read 0x418 ∷ Read 0x440 ∷ Read 0x488 ∷ Read 0x498 ∷ []) (with-locks true)
     ≡ Denied ∷ Denied ∷ Denied ∷ Denied ∷ Denied ∷ Done 0 ∷ Done 0 ∷ Done 1 ∷ []

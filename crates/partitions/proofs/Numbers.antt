@@ -1,19 +1,24 @@
--- Both maps in the papers' own numbers: sizes, and which partitions have which right. Each list is computed. With fitness, by which partitions adjoin from 0 and end
--- with a digest of eight bytes, the sizes fix every address.
+-- Both maps in the papers' own numbers: sizes, kinds, and which partitions have which right. Each list is computed. In a fit map partitions adjoin from 0 and end with
+-- a digest of eight bytes: there the sizes fix every address.
 use mathlib.Core.Path.{_≡_, refl}
 use mathlib.Core.List.{[], _∷_}
 use Rattle.basics.specs.Choice.{if_then_else_}
+use Rattle.partitions.specs.declared.Kind.the-variants.{Software, AuthState, HwCfg, Secret0, Secret1, Secret2, LifeCycle}
 use Rattle.partitions.specs.declared.Rights.{Rights}
 use Rattle.partitions.specs.Map.{rightsOf}
 use Rattle.partitions.specs.Map1.{map1}
 use Rattle.partitions.specs.Map2.{map2}
-use Rattle.partitions.specs.Maps.{sizes, numbersWith}
+use Rattle.partitions.specs.Maps.{sizes, kinds, numbersWith}
 
 -- ---- Map 1: the differences of document 01's addresses
 
 pub map1-sizes : sizes map1 ≡ 256 ∷ 256 ∷ 80 ∷ 40 ∷ 88 ∷ 88 ∷ 88 ∷ []
 unfolding sizes map1
 map1-sizes = refl
+
+pub map1-kinds : kinds map1 ≡ Software ∷ Software ∷ HwCfg ∷ Secret0 ∷ Secret1 ∷ Secret2 ∷ LifeCycle ∷ []
+unfolding kinds map1
+map1-kinds = refl
 
 -- all but LIFE_CYCLE
 pub map1-direct : numbersWith (λ (r : Rights). r .direct) 0 map1 ≡ 0 ∷ 1 ∷ 2 ∷ 3 ∷ 4 ∷ 5 ∷ []
@@ -47,11 +52,16 @@ map1-old-rule = refl
 
 -- ---- Map 2 (request Six)
 
--- "VENDOR_TEST 64, CREATOR_SW_CFG 256, OWNER_SW_CFG 256, ROT_CREATOR_AUTH_CODESIGN 472, ROT_CREATOR_AUTH_STATE 40, HW_CFG0 72, HW_CFG1 16, SECRET0 40, SECRET1 88,
--- SECRET2 88, LIFE_CYCLE 88"
+-- "VENDOR_TEST 64, CREATOR_SW_CFG 256, OWNER_SW_CFG 256, ROT_CREATOR_AUTH_CODESIGN 472, ROT_CREATOR_AUTH_STATE 40, HW_CFG0 72, HW_CFG1 16, SECRET0 40,
+-- SECRET1 88, SECRET2 88, LIFE_CYCLE 88"
 pub map2-sizes : sizes map2 ≡ 64 ∷ 256 ∷ 256 ∷ 472 ∷ 40 ∷ 72 ∷ 16 ∷ 40 ∷ 88 ∷ 88 ∷ 88 ∷ []
 unfolding sizes map2
 map2-sizes = refl
+
+-- "the secrets and LIFE_CYCLE hold the same items in the same order"
+pub map2-kinds : kinds map2 ≡ Software ∷ Software ∷ Software ∷ Software ∷ AuthState ∷ HwCfg ∷ HwCfg ∷ Secret0 ∷ Secret1 ∷ Secret2 ∷ LifeCycle ∷ []
+unfolding kinds map2
+map2-kinds = refl
 
 pub map2-direct : numbersWith (λ (r : Rights). r .direct) 0 map2 ≡ 0 ∷ 1 ∷ 2 ∷ 3 ∷ 4 ∷ 5 ∷ 6 ∷ 7 ∷ 8 ∷ 9 ∷ []
 unfolding numbersWith rightsOf if_then_else_ map2

@@ -38,7 +38,7 @@ pub struct Partition {
     pub granule: usize,
 }
 
-// What document 01 grants each kind, the three secrets alike.
+// What documents 01 and 02 grant each kind, the three secrets alike.
 impl Rights {
     const SOFTWARE: Rights = Rights {
         direct: true,

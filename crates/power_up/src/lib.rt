@@ -2,7 +2,7 @@
 use chip::Judged;
 use life_cycle::LifeCycle;
 use model::Answer;
-use model::DIGESTS;
+use model::ENTRIES;
 use model::Outcome;
 use model::Phase;
 use model::Reason;
@@ -94,7 +94,7 @@ fn stored_digests(cells: &[u16], map: MapName) -> [u64; 10]
 {
     let mut digests = [0u64; 10];
     let mut number = 0;
-    while number < DIGESTS {
+    while number < ENTRIES {
         digests[number] = sensed_digest(cells, map.partition_of(number));
         number += 1;
     }

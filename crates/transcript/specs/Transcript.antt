@@ -65,6 +65,6 @@ unfoldable pub printed : List Line → List ℕ
 printed [] = []
 printed (l ∷ ls) = lineOf (l .kind) (l .code) (l .value) ++ printed ls
 
--- all bytes printed: the lines, and "the end line counts the lines before it"
+-- all bytes printed: the lines, then the end line: it "counts the lines before it"
 unfoldable pub transcript : List ℕ → List ℕ → List ℕ → List ℕ
 transcript script image constants = printed (linesOf script image constants) ++ endLine (length (linesOf script image constants))

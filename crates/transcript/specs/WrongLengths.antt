@@ -1,5 +1,5 @@
--- The lengths of files: "the bench takes Map 2 for an image of 1,480 bytes, else Map 1" (request Six), and "a wrong length gives 0x10 on each line". And scripts
--- that are too long.
+-- The lengths of files: "the bench takes Map 2 for an image of 1,480 bytes, else Map 1" (request Six), and "a wrong length gives 0x10 on each line". And
+-- scripts that are too long.
 use Prim.Native.Nat.{ℕ, _<_}
 use mathlib.Core.Path.{_≡_}
 use mathlib.Core.Bool.{true, false}
