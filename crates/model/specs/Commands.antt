@@ -1,5 +1,6 @@
--- The commands but power-up, each in the paper's order of refusals, over any primitives and map. What each may do is in the sentence above it; of addresses and
--- numbers of Map 1 there, "0x10, 0x06 and the address limit read from the map in use; where 01 or Two numbers or counts partitions, their kind decides."
+-- The commands but power-up, each in the paper's order of refusals, over any primitives and map. What each may do is in the sentence above it. Addresses and
+-- numbers there are those of Map 1: "0x10, 0x06 and the address limit read from the map in use; where 01 or Two numbers or counts partitions, their kind
+-- decides." (request Six)
 use Prim.Native.Nat.{ℕ, suc, _+_, _*_, _-_, _/_, _^_}
 use mathlib.Core.Bool.{Bool, not, _&&_}
 use mathlib.Core.List.{List}
