@@ -44,14 +44,6 @@ module _ (prims : Primitives) (keys : ℕ → ℕ) where
         & (refl, refl, tt) & tt;
   }
 
-  owner-rows : Part prims keys map1 448 (bothSides 448 0x100)
-  unfolding everything
-  owner-rows = record {
-    rows =
-        (refl, refl, refl) & (refl, refl, refl) & (refl, refl, refl) & (refl, refl, refl) & (refl, refl, refl) & (refl, refl, tt) & (refl, refl, tt)
-        & (refl, refl, tt) & tt;
-  }
-
   -- the words of a number of 64 bits stand for it
   hardware-rows : blankDigest prims keys < 2 ^ 64 → Part prims keys map1 448 (hardware (blankDigest prims keys) ∷ [])
   unfolding everything
@@ -63,17 +55,9 @@ module _ (prims : Primitives) (keys : ℕ → ℕ) where
   unfolding everything
   creator-once = record { rows = (refl, refl, refl) & (refl, refl, tt) & (refl, refl, refl) & (refl, refl, tt) & tt }
 
-  device-once : Part prims keys map1 448 (secondBurn 448 0x200)
-  unfolding everything
-  device-once = record { rows = (refl, refl, refl) & (refl, refl, tt) & (refl, refl, refl) & (refl, refl, tt) & tt }
-
   first-named : Part prims keys map1 448 (whichWord 448 0x250)
   unfolding everything
   first-named = record { rows = (refl, refl, refl) & (refl, refl, refl) & (refl, refl, refl) & (refl, refl, refl) & tt }
-
-  last-named : Part prims keys map1 448 (whichWord 448 0x318)
-  unfolding everything
-  last-named = record { rows = (refl, refl, refl) & (refl, refl, refl) & (refl, refl, refl) & (refl, refl, refl) & tt }
 
   locked-first : Part prims keys map1 448 (lockedFirst ∷ off 448 ∷ [])
   unfolding everything
@@ -84,4 +68,4 @@ module _ (prims : Primitives) (keys : ℕ → ℕ) where
   unfolding table
   cases h small other =
       held prims keys map1 448 (table (blankDigest prims keys))
-      ((paper-rows small other and creator-rows and owner-rows and hardware-rows h and creator-once and device-once and first-named and last-named and locked-first) .rows)
+      ((paper-rows small other and creator-rows and hardware-rows h and creator-once and first-named and locked-first) .rows)

@@ -72,8 +72,11 @@ lockedFirst =
 
 unfoldable pub table : ℕ → List Case
 table digest =
-    paper ++ bothSides 448 0x000 ++ bothSides 448 0x100 ++ (hardware digest ∷ []) ++ secondBurn 448 0x000 ++ secondBurn 448 0x200
-    ++ whichWord 448 0x250 ++ whichWord 448 0x318 ++ (lockedFirst ∷ off 448 ∷ [])
+    paper ++ bothSides 448 0x000 ++ (hardware digest ∷ []) ++ secondBurn 448 0x000 ++ whichWord 448 0x250 ++ (lockedFirst ∷ off 448 ∷ [])
+
+-- the rows of requests Two, Three and Five in other partitions: OWNER_SW_CFG, HW_CFG, and the last granule of SECRET2
+unfoldable pub tableElsewhere : List Case
+tableElsewhere = bothSides 448 0x100 ++ secondBurn 448 0x200 ++ whichWord 448 0x318
 
 module _ (prims : Primitives) (keys : ℕ → ℕ) where
   abbrev pub chip : List ℕ → Machine

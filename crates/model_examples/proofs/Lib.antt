@@ -1,3 +1,4 @@
+pub mod CasesElsewhere
 pub mod CasesOfMap2
 pub mod Examples
 pub mod ExamplesOfMap2
