@@ -3,11 +3,10 @@ use Rattle.partitions.specs.declared.MapName.{MapName}
 use Rattle.partitions.specs.Maps.{mapOf}
 use Rattle.partitions.proofs.Maps.{maps-fit}
 use Rattle.present.proofs.Inverse.{encrypt-lt, decrypt-encrypt}
-use Rattle.model.specs.Terms.{Cipher}
-use Rattle.model.specs.Refusals.{Refusals}
-use Rattle.model.specs.Demand3.{Demand3}
-use Rattle.model.specs.Beyond.{Beyond}
-use Rattle.model.specs.OldRule.{OldRule}
+use Rattle.model.specs.Claims.Terms.{Cipher}
+use Rattle.model.specs.Claims.Refusals.{Refusals}
+use Rattle.model.specs.Claims.Demand3.{Demand3}
+use Rattle.model.specs.Claims.OldRule.{OldRule}
 use Rattle.model.proofs.Theorems.{refusals, demand3, beyond}
 use Rattle.model.proofs.OldRule.{old-rule}
 use Rattle.chip.specs.Chip.{primitives}

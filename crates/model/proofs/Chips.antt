@@ -35,7 +35,7 @@ use Rattle.model.specs.Acts.{stay, turned, Act, say, Performed, afterPro
 use Rattle.model.specs.Commands.{granule, storedDigest, dataWords, computedDigest, unscrambled, counterAt, writeAct, readAct, frontReadAct, digestAct, readLockAct, transitionAct, tokenAct, lockedTokenAct, entryAct, moveAct, commandAct, readyAct}
 use Rattle.model.specs.PowerUp.{sensedDigest, digests, Waking, fails, wakes, waking, wakingOf, copyWord, wokenCopy, wokenSession, wokenAnswer}
 use Rattle.model.specs.Step.{Step, performed, act, powerUp, step, after, answers, machineAfter}
-use Rattle.model.specs.Terms.{Right, Digested, Agree, Matched, Hidden, Alike}
+use Rattle.model.specs.Claims.Terms.{Right, Digested, Agree, Matched, Hidden, Alike}
 use Rattle.model.proofs.Acts.{Within, says, programs, compares, within-map}
 use Rattle.model.proofs.Frame.{Open, unlocked, lifeCycle, not-locked, life-words, life-closed, life-same, act-within}
 use Rattle.model.proofs.Steps.{obey-both, step-obeys, step-up, cells-length, up-right, act-right}

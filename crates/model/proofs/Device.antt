@@ -26,7 +26,7 @@ use Rattle.model.specs.Acts.{Act, perform}
 use Rattle.model.specs.Commands.{granule, storedDigest, frontReadAct, commandAct, readyAct}
 use Rattle.model.specs.PowerUp.{Waking, fails, wakes, waking, copyWord, wokenCopy, wokenSession}
 use Rattle.model.specs.Step.{Step, unchanged, performed, act, powerUp, obey, after, machineAfter, answerTo}
-use Rattle.model.specs.Terms.{Right, Digested, SamePartition}
+use Rattle.model.specs.Claims.Terms.{Right, Digested, SamePartition}
 use Rattle.model.proofs.Acts.{not-done}
 use Rattle.model.proofs.Steps.{outcome, after-append, step-all, step-obeys, step-up, after-right, acted, poweredUp}
 use Rattle.model.proofs.Locks.{same-refl, same-trans, turned-ready, Locked, up-locked, step-locked}
@@ -35,17 +35,18 @@ use Rattle.model.proofs.Chips.{front-latched}
 -- ---- what a front read that answers 0 shows
 
 module _ (prims : Primitives) (map : Map) where
-  record Seen (m : Machine) (a value : ℕ) : Type 0 where
-    awake : isReady (m .session .phase) ≡ true
-    below : a < limit map
-    shown : value ≡ granule (partitionAt map a) (m .lent .copy) a
+  pub record Seen (m : Machine) (a value : ℕ) : Type 0 where
+    pub awake : isReady (m .session .phase) ≡ true
+    pub below : a < limit map
+    pub front : rightsOf (partitionAt map a .kind) .front ≡ true
+    pub shown : value ≡ granule (partitionAt map a) (m .lent .copy) a
 
-  front-seen : (m : Machine) (a value : ℕ) → outcome prims map (FrontRead a) m .answer ≡ Done value → Seen m a value
+  pub front-seen : (m : Machine) (a value : ℕ) → outcome prims map (FrontRead a) m .answer ≡ Done value → Seen m a value
   unfolding readyAct commandAct frontReadAct perform
   front-seen m a value =
       if-both Q _ _ _ (λ t e. absurd (not-done refl e)) λ r. if-both Q _ _ _ (λ t e. absurd (not-done refl e)) λ l.
-      if-both Q _ _ _ (λ t e. absurd (not-done refl e)) λ t. if-both Q _ _ _ (λ t e. absurd (not-done refl e)) λ t e.
-      record { awake = not-false _ r; below = leb-false _ _ l; shown = sym (ap valueOf e) }
+      if-both Q _ _ _ (λ t e. absurd (not-done refl e)) λ f. if-both Q _ _ _ (λ t e. absurd (not-done refl e)) λ t e.
+      record { awake = not-false _ r; below = leb-false _ _ l; front = not-false _ f; shown = sym (ap valueOf e) }
     where
       Q : Act → Type 0
       Q x = perform x (m .lent .copy) (m .lent .cells) .answer ≡ Done value → Seen m a value

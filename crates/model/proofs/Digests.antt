@@ -28,8 +28,8 @@ use Rattle.model.specs.declared.Command.the-variants.{Write, Digest}
 use Rattle.model.specs.Lent.{Machine, Primitives}
 use Rattle.model.specs.Commands.{storedDigest, scrambled}
 use Rattle.model.specs.Step.{Step, unchanged, performed, act, powerUp, after, machineAfter, answerTo}
-use Rattle.model.specs.Terms.{Right, Digested}
-use Rattle.model.specs.Beyond.{Puts, writes, computes, Source, found, put}
+use Rattle.model.specs.Claims.Terms.{Right, Digested}
+use Rattle.model.specs.Claims.Digests.{Puts, writes, computes, Source, found, put}
 use Rattle.model.proofs.Acts.{Burnt, left, burnt, perform-once}
 use Rattle.model.proofs.Frame.{Aim, by-aim, aimless-word}
 use Rattle.model.proofs.Steps.{outcome, step-all, cells-length, step-right}
@@ -51,7 +51,7 @@ module _ (prims : Primitives) (map : Map) (F : fit map ≡ true) (n : ℕ) (D : 
   digest-same c d h = ap numberOf (part-same c d _ 4 (λ j lo hi. h j (lo, hi)))
 
   -- four words programmed there are the digest
-  digest-taken : (rule : Rule) (m : Machine) → Right map m → (value : ℕ) → programAnswer rule (m .lent .cells) (p .digest / 2) (wordsOf 4 value) ≡ programmed.Done
+  pub digest-taken : (rule : Rule) (m : Machine) → Right map m → (value : ℕ) → programAnswer rule (m .lent .cells) (p .digest / 2) (wordsOf 4 value) ≡ programmed.Done
       → value % 2 ^ 64 ≡ storedDigest p (programCells rule (m .lent .cells) (p .digest / 2) (wordsOf 4 value))
   unfolding storedDigest
   digest-taken rule m r value e =
@@ -66,7 +66,7 @@ module _ (prims : Primitives) (map : Map) (F : fit map ≡ true) (n : ℕ) (D : 
   digest-left rule c words at h = digest-same _ c (λ j w. program-elsewhere rule c words at j (h j w))
 
   -- what a command makes of it
-  data Change (x : Command) (c d : List ℕ) (answer : Answer) : Type 0 where
+  pub data Change (x : Command) (c d : List ℕ) (answer : Answer) : Type 0 where
     kept : storedDigest p d ≡ storedDigest p c → Change x c d answer
     puts : Puts map n (storedDigest p d) x answer → Change x c d answer
 
@@ -112,7 +112,7 @@ module _ (prims : Primitives) (map : Map) (F : fit map ≡ true) (n : ℕ) (D : 
   -- ---- a digest command
 
   -- it programs words of its partition alone
-  computed-word : {m : Machine} {a : ℕ} {rule : Rule} {at : ℕ} {words : List ℕ} {value : ℕ} → Computed prims map m a rule at words value
+  pub computed-word : {m : Machine} {a : ℕ} {rule : Rule} {at : ℕ} {words : List ℕ} {value : ℕ} → Computed prims map m a rule at words value
       → (j : ℕ) → at ≤ j → j < at + length words → numberAt map (2 * j) ≡ numberAt map a
   unfolding partitionAt
   computed-word {a = a} w j lo hi =
@@ -140,7 +140,7 @@ module _ (prims : Primitives) (map : Map) (F : fit map ≡ true) (n : ℕ) (D : 
   command-changes : (m : Machine) → Right map m → (x : Command) → Changes x m
   command-changes m r = by-aim map (λ (x : Command). Changes x m) (write-changes m r) (digest-changes m r) (λ x h. aimless x m h)
 
-  step-changes : (x : Command) (m : Machine) → Right map m → Change x (m .lent .cells) (machineAfter prims map x m .lent .cells) (answerTo prims map x m)
+  pub step-changes : (x : Command) (m : Machine) → Right map m → Change x (m .lent .cells) (machineAfter prims map x m .lent .cells) (answerTo prims map x m)
   unfolding unchanged powerUp act performed
   step-changes x m r =
       step-all prims map (λ (s : Step). Change x (m .lent .cells) (s .result .machine .lent .cells) (s .result .answer)) x m (λ answer e. kept refl) (kept refl)

@@ -23,7 +23,7 @@ use Rattle.model.specs.Acts.{Turn, stay, lock, halt, die, turned}
 use Rattle.model.specs.Commands.{storedDigest}
 use Rattle.model.specs.PowerUp.{sensedDigest, digests, Waking, fails, wakes, waking, wokenSession}
 use Rattle.model.specs.Step.{Step, unchanged, performed, act, powerUp, after, machineAfter}
-use Rattle.model.specs.Terms.{Right, Digested, SamePartition}
+use Rattle.model.specs.Claims.Terms.{Right, Digested, SamePartition}
 use Rattle.model.proofs.Acts.{perform-frame}
 use Rattle.model.proofs.Frame.{Open, unlocked, lifeCycle, act-within}
 use Rattle.model.proofs.Steps.{after-append, step-all, step-up, after-right, acted, poweredUp}

@@ -30,9 +30,9 @@ use Rattle.model.specs.Acts.{Act, refuse, perform}
 use Rattle.model.specs.Commands.{lifeCycleRule, counterAt, stateAt, writeAct, readAct, frontReadAct, digestAct, readLockAct, moveAct, transitionAct, commandAct, readyAct}
 use Rattle.model.specs.PowerUp.{waking}
 use Rattle.model.specs.Step.{Step, unchanged, performed, act, powerUp, obey, after, answerTo}
-use Rattle.model.specs.Terms.{Right}
-use Rattle.model.specs.Refusals.{judged}
-use Rattle.model.specs.Beyond.{Says, Targets, writing, digesting, moving, Named}
+use Rattle.model.specs.Claims.Terms.{Right, Says}
+use Rattle.model.specs.Claims.Refusals.{judged}
+use Rattle.model.specs.Claims.Burns.{Targets, writing, digesting, moving, Named}
 use Rattle.model.proofs.Programs.{Programs, refuses, ends, burns, compares, programs-if, programs-either, last-piece, once-programs, Tells, tells-nothing, perform-programs}
 use Rattle.model.proofs.Steps.{step-both, step-obeys, after-right}
 use Rattle.model.proofs.Targets.{write-once, digest-once}

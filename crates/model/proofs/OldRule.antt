@@ -30,9 +30,9 @@ use Rattle.model.specs.Lent.{Machine, Primitives, rightLengths}
 use Rattle.model.specs.Acts.{turned, afterProgram, perform}
 use Rattle.model.specs.Commands.{directRule, digestRule, storedDigest, scrambled}
 use Rattle.model.specs.Step.{Step, unchanged, performed, act, obey, step, after, machineAfter, answerTo}
-use Rattle.model.specs.Terms.{Right, Cipher, spares, storedWords, Allowed, TakesEffect}
-use Rattle.model.specs.Demand3.{Ready}
-use Rattle.model.specs.OldRule.{InAuthState, twoWords, Gains, stays, gains, OldRule}
+use Rattle.model.specs.Claims.Terms.{Right, Cipher, spares, storedWords, Allowed, TakesEffect}
+use Rattle.model.specs.Claims.Demand3.{Ready}
+use Rattle.model.specs.Claims.OldRule.{InAuthState, twoWords, Gains, stays, gains, OldRule}
 use Rattle.model.proofs.Acts.{Burnt, left, burnt, perform-once}
 use Rattle.model.proofs.Targets.{Written, write-once, digest-rule}
 use Rattle.model.proofs.Steps.{outcome, lengths-of, step-right-lengths, after-right}

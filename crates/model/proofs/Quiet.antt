@@ -5,8 +5,8 @@ use Rattle.partitions.specs.Map.{Map}
 use Rattle.model.specs.declared.Command.{Command}
 use Rattle.model.specs.Lent.{Machine, Primitives}
 use Rattle.model.specs.Step.{Step, unchanged, performed, act, after, machineAfter}
-use Rattle.model.specs.Terms.{quiet}
-use Rattle.model.specs.Beyond.{Quiet}
+use Rattle.model.specs.Claims.Terms.{quiet}
+use Rattle.model.specs.Claims.Sensing.{Quiet}
 use Rattle.model.proofs.Steps.{obeys-act, step-both}
 use Rattle.model.proofs.Locks.{turned-sensed}
 

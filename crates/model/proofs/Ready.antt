@@ -24,7 +24,7 @@ use Rattle.model.specs.Acts.{Turn, stay, lock, halt, die, turned, Act}
 use Rattle.model.specs.Commands.{storedDigest, writeAct, readAct, frontReadAct, digestAct, readLockAct, transitionAct, commandAct, readyAct}
 use Rattle.model.specs.PowerUp.{Waking, wakes, waking, wakingOf, lifeCycleWaking, wokenSession, wokenAnswer}
 use Rattle.model.specs.Step.{performed, act, powerUp, step, after, machineAfter, answerTo}
-use Rattle.model.specs.Terms.{Right, Digested, staysReady, Lasts}
+use Rattle.model.specs.Claims.Terms.{Right, Digested, staysReady, Lasts}
 use Rattle.model.proofs.Acts.{Gives, perform-gives, gives-either}
 use Rattle.model.proofs.Transitions.{Ends, entry-gives}
 use Rattle.model.proofs.Steps.{obeys-act, step-obeys, step-up, up-right, act-right, acted, poweredUp}

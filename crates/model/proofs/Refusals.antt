@@ -25,8 +25,8 @@ use Rattle.model.specs.Acts.{Turn, stay, halt, die, Act, say, program, r
 use Rattle.model.specs.Commands.{writeAct, readAct, frontReadAct, digestAct, readLockAct, transitionAct, commandAct, readyAct}
 use Rattle.model.specs.PowerUp.{wakingOf, verdictOf, lifeCycleIn, waking, wokenAnswer}
 use Rattle.model.specs.Step.{Step, unchanged, performed, act, powerUp, obey, step, machineAfter, answerTo}
-use Rattle.model.specs.Terms.{quiet}
-use Rattle.model.specs.Refusals.{judged, early, phaseAfter}
+use Rattle.model.specs.Claims.Terms.{quiet}
+use Rattle.model.specs.Claims.Refusals.{judged, early, phaseAfter}
 use Rattle.model.proofs.Acts.{after-both, Gives, programs, perform-gives}
 use Rattle.model.proofs.Transitions.{Ends, entry-gives}
 use Rattle.model.proofs.Steps.{step-both, obeys-act}

@@ -22,7 +22,7 @@ use Rattle.model.specs.Answers.{codeOf}
 use Rattle.model.specs.Lent.{Machine, Primitives}
 use Rattle.model.specs.Commands.{directRule, granule, readyAct}
 use Rattle.model.specs.Step.{Step, unchanged, performed, act, powerUp, after, machineAfter, answerTo}
-use Rattle.model.specs.Beyond.{Targets, writing, digesting}
+use Rattle.model.specs.Claims.Burns.{Targets, writing, digesting}
 use Rattle.model.proofs.Acts.{Once, Burnt, left, burnt, perform-once}
 use Rattle.model.proofs.Targets.{rule-side, Struck, write-once, digest-once, write-struck, digest-struck}
 use Rattle.model.proofs.Frame.{by-aim, aimless-granule}

@@ -22,8 +22,8 @@ use Rattle.model.specs.Acts.{Performed, perform}
 use Rattle.model.specs.Commands.{readyAct}
 use Rattle.model.specs.PowerUp.{Waking, fails, wakes, wokenCopy}
 use Rattle.model.specs.Step.{Step, unchanged, performed, act, powerUp, obey, step, after, machineAfter}
-use Rattle.model.specs.Terms.{Right}
-use Rattle.model.specs.Refusals.{judged}
+use Rattle.model.specs.Claims.Terms.{Right}
+use Rattle.model.specs.Claims.Refusals.{judged}
 use Rattle.model.proofs.Acts.{perform-kept, perform-length}
 
 module _ (prims : Primitives) (map : Map) where

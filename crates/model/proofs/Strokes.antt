@@ -42,8 +42,8 @@ use Rattle.model.specs.Acts.{Turn, stay, lock, halt, die, turned, Act, s
 use Rattle.model.specs.Commands.{lifeCycleRule, counterAt, stateAt, moveAct, entryAct, transitionAct, commandAct, readyAct}
 use Rattle.model.specs.PowerUp.{Waking, waking, wakingOf, lifeCycleWaking, verdictOf, lifeCycleIn, wokenSession}
 use Rattle.model.specs.Step.{Step, unchanged, performed, act, powerUp, obey, step, after, machineAfter, answerTo}
-use Rattle.model.specs.Terms.{Right}
-use Rattle.model.specs.Beyond.{Course, stays, spends, moves, Rising}
+use Rattle.model.specs.Claims.Terms.{Right}
+use Rattle.model.specs.Claims.Transitions.{Course, stays, spends, moves}
 use Rattle.model.proofs.Acts.{perform-frame}
 use Rattle.model.proofs.Transitions.{Walk, token-all}
 use Rattle.model.proofs.Frame.{Open, unlocked, lifeCycle, isTransition, life-words, life-closed, life-same, act-within}
@@ -51,7 +51,7 @@ use Rattle.model.proofs.Steps.{after-append, step-all, step-obeys, step
 use Rattle.model.proofs.Locks.{turned-ready}
 
 -- the cells hold the record's state and count
-abbrev Alive : Primitives → Map → Machine → Type 0
+abbrev pub Alive : Primitives → Map → Machine → Type 0
 Alive prims map m = lifeCycleIn map (m .lent) ≡ Valid (m .session .state) (m .session .count)
 
 -- they do while the phase is Ready
@@ -66,7 +66,7 @@ halt-stops : stops halt
 unfolding turned isReady
 halt-stops s e = true-not-false e refl
 
-turned-life : (t : Turn) (s : Session) → (turned t s .state ≡ s .state) × (turned t s .count ≡ s .count)
+pub turned-life : (t : Turn) (s : Session) → (turned t s .state ≡ s .state) × (turned t s .count ≡ s .count)
 unfolding turned
 turned-life stay s = (refl, refl)
 turned-life (lock number) s = (refl, refl)
@@ -178,17 +178,17 @@ module _ (prims : Primitives) (map : Map) (F : fit map ≡ true) where
       if-both
       (λ (w : Waking). let s = wokenSession map w l in isReady (s .phase) ≡ true → Valid state count ≡ Valid (s .state) (s .count)) _ _ _ (λ t e. absurd (true-not-false e refl)) (λ t e. refl)
 
-  up-life : (m : Machine) → lifeCycleIn map (poweredUp prims map m .lent) ≡ lifeCycleIn map (m .lent)
+  pub up-life : (m : Machine) → lifeCycleIn map (poweredUp prims map m .lent) ≡ lifeCycleIn map (m .lent)
   unfolding powerUp
   up-life m = life-same prims map F (m .lent .cells) (m .lent .cells) _ (m .lent .copy) (m .lent .constants) (λ j l u. refl)
 
-  up-living : (m : Machine) → Living prims map (poweredUp prims map m)
+  pub up-living : (m : Machine) → Living prims map (poweredUp prims map m)
   up-living m =
       let l = m .lent in
       record { holds = λ e. up-life m ∙ (unfold powerUp waking in (woken-living (verdictOf prims map l) (lifeCycleIn map l) l e)) }
 
   -- a command that is no transition leaves the life cycle words
-  others-life : (x : Command) (m : Machine) → isTransition x ≡ false → lifeCycleIn map (acted prims map x m .lent) ≡ lifeCycleIn map (m .lent)
+  pub others-life : (x : Command) (m : Machine) → isTransition x ≡ false → lifeCycleIn map (acted prims map x m .lent) ≡ lifeCycleIn map (m .lent)
   unfolding act performed
   others-life x m n =
       life-same prims map F _ (m .lent .cells) _ _ (m .lent .constants)
@@ -211,7 +211,7 @@ module _ (prims : Primitives) (map : Map) (F : fit map ≡ true) where
     abbrev c₁ : List ℕ
     c₁ = cells₁ prims map F m r live room
 
-    life-inside : counterAt map + 44 ≤ length (m .lent .cells)
+    pub life-inside : counterAt map + 44 ≤ length (m .lent .cells)
     unfolding counterAt
     life-inside =
         let n = numberOfKind map kind.LifeCycle in
@@ -234,7 +234,7 @@ module _ (prims : Primitives) (map : Map) (F : fit map ≡ true) where
         ap₂ (λ (x y : List ℕ). decoded t x y) e f
         ∙ decoded-valid t (record { small = r .words }) (r .valid) state (suc (m .session .count)) l room (λ z. absurd (omega arith))
 
-    spent-life : (copy : List ℕ) → lifeCycleIn map (record { cells = c₁; copy = copy; constants = t }) ≡ Valid (m .session .state) (suc (m .session .count))
+    pub spent-life : (copy : List ℕ) → lifeCycleIn map (record { cells = c₁; copy = copy; constants = t }) ≡ Valid (m .session .state) (suc (m .session .count))
     spent-life copy = decodes c₁ copy (m .session .state) known counter-held (state-stays prims map F m r live room)
       where
         known : m .session .state ≤ 20
@@ -258,7 +258,7 @@ module _ (prims : Primitives) (map : Map) (F : fit map ≡ true) where
           let inside : stateAt map + length ws ≤ length c₁ = rw state-length (omega (arith, life-inside, same)) in
           rw state-length at (program-takes lifeCycleRule c₁ ws (stateAt map) inside (move-fits prims map F m r live room target a))
 
-      moved-life : (copy : List ℕ) → lifeCycleIn map (record { cells = c₂; copy = copy; constants = t }) ≡ Valid target (suc (m .session .count))
+      pub moved-life : (copy : List ℕ) → lifeCycleIn map (record { cells = c₂; copy = copy; constants = t }) ≡ Valid target (suc (m .session .count))
       moved-life copy = decodes c₂ copy target (allowed-ends (m .session .state) target a .within) counter-still state-held
 
   -- what one command makes of a living machine
@@ -321,7 +321,7 @@ module _ (prims : Primitives) (map : Map) (F : fit map ≡ true) where
   unfolding unchanged
   unchanged-goes answer m live = record { course = stays; living = live }
 
-  step-goes : (x : Command) (m : Machine) → Right map m → Living prims map m → Goes m (step prims map x m)
+  pub step-goes : (x : Command) (m : Machine) → Right map m → Living prims map m → Goes m (step prims map x m)
   step-goes x m r live =
       step-all prims map (Goes m) x m (λ answer e. unchanged-goes answer m live) (same-goes m (powerUp prims map m) (up-life m) (up-living m))
       (act-goes x m r live)
@@ -342,7 +342,7 @@ module _ (prims : Primitives) (map : Map) (F : fit map ≡ true) where
 
   -- ---- the theorems
 
-  first-living : (m : Machine) → Right map m → Living prims map (machineAfter prims map PowerUp m)
+  pub first-living : (m : Machine) → Right map m → Living prims map (machineAfter prims map PowerUp m)
   first-living m r = rw (step-up prims map m r, machineAfter) (up-living m)
 
   pub since-living : (m : Machine) → Right map m → (l : List Command) → Living prims map (after prims map (PowerUp ∷ l) m)
@@ -354,7 +354,7 @@ module _ (prims : Primitives) (map : Map) (F : fit map ≡ true) where
   moved-not-four m target (spent v l e h f) = f
   moved-not-four m target (reached v l a e h f) = f
 
-  living-not-four : (m : Machine) → Right map m → Living prims map m → (target high low : ℕ)
+  pub living-not-four : (m : Machine) → Right map m → Living prims map m → (target high low : ℕ)
       → codeOf (answerTo prims map (Transition target high low) m) ≡ 0x04 → ⊥
   unfolding obey act performed
   living-not-four m r live target high low =
@@ -381,5 +381,5 @@ course-count (moves {state = s′} {count = n′} g a) s n t k e f =
     let q : suc n′ ≡ k = cc in
     omega (arith, course-count g s n s′ n′ e refl)
 
-pub rising : Rising
-rising = record { counts = λ s n t k c. course-count c s n t k refl refl }
+pub counts : (s n t k : ℕ) → Course (Valid s n) (Valid t k) → n ≤ k
+counts s n t k c = course-count c s n t k refl refl

@@ -20,7 +20,7 @@ use Rattle.partitions.proofs.Granules.{digest-word, digest-granule}
 use Rattle.model.specs.declared.Command.the-variants.{Write, Digest}
 use Rattle.model.specs.Lent.{Machine, Primitives}
 use Rattle.model.specs.Commands.{directRule, digestRule, computedDigest, writeAct, digestAct, commandAct, readyAct}
-use Rattle.model.specs.Terms.{storedWords}
+use Rattle.model.specs.Claims.Terms.{storedWords}
 use Rattle.model.proofs.Acts.{Once, refuses, burns, once-if, once-map}
 
 module _ (prims : Primitives) (map : Map) (m : Machine) (a : ℕ) where

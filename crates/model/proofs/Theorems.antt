@@ -1,29 +1,49 @@
--- Refusals, demand 3 and what goes beyond it, for every cipher with the two laws and every fit map: each part is cited from its own file.
-use mathlib.Core.Path.{_≡_}
+-- All claims, for every cipher and digest with their laws and every fit map: each part is cited from its own file.
+use mathlib.Core.Path.{_≡_, refl}
 use mathlib.Core.Bool.{true}
+use mathlib.Core.List.{_∷_}
 use Rattle.partitions.specs.Map.{Map}
+use Rattle.partitions.specs.Map2.{map2}
 use Rattle.partitions.specs.Fitness.{fit}
+use Rattle.model.specs.declared.Command.the-variants.{PowerUp}
 use Rattle.model.specs.Lent.{Primitives}
 use Rattle.model.specs.Step.{after}
-use Rattle.model.specs.Terms.{Cipher}
-use Rattle.model.specs.Refusals.{Refusals}
-use Rattle.model.specs.Demand3.{Demand3}
-use Rattle.model.specs.Beyond.{Beyond}
+use Rattle.model.specs.Claims.Terms.{Cipher, DigestFits}
+use Rattle.model.specs.Claims.Demand3.{Demand3}
+use Rattle.model.specs.Claims.Refusals.{Refusals}
+use Rattle.model.specs.Claims.Burns.{Burns}
+use Rattle.model.specs.Claims.Transitions.{Transitions, TokenPlaces}
+use Rattle.model.specs.Claims.Digests.{Digests}
+use Rattle.model.specs.Claims.FailedPowerUps.{FailedPowerUps}
+use Rattle.model.specs.Claims.ReadLocks.{ReadLocks}
+use Rattle.model.specs.Claims.Sensing.{Sensing}
+use Rattle.model.specs.Claims.All.{Claims}
+use Rattle.model.proofs.Steps.{bits-stay, after-right}
 use Rattle.model.proofs.Refusals.{commands-refuse, power-ups-refuse, transitions-refuse}
+use Rattle.model.proofs.LeftOut.{left-out}
 use Rattle.model.proofs.Deaths.{deaths-told}
-use Rattle.model.proofs.Steps.{bits-stay}
 use Rattle.model.proofs.Locks.{locked-since}
-use Rattle.model.proofs.TokensAsked.{transition-shows}
 use Rattle.model.proofs.NamedWords.{refused-named, locked-denied}
 use Rattle.model.proofs.SecondBurns.{found-blank, no-second-burn, granule-final}
 use Rattle.model.proofs.Writes.{write-taken, reads-back, reads-last}
+use Rattle.model.proofs.WriteCodes.{write-exact, write-allowed}
+use Rattle.model.proofs.OldRule.{old-rule}
 use Rattle.model.proofs.Chips.{two-chips}
 use Rattle.model.proofs.Digests.{whole-digests}
-use Rattle.model.proofs.Strokes.{never-four, courses-run}
-use Rattle.model.proofs.Device.{device-final}
+use Rattle.model.proofs.Strokes.{never-four, courses-run, counts, since-living}
+use Rattle.model.proofs.TransitionCells.{step-told}
+use Rattle.model.proofs.TransitionCodes.{fair-exact, tokens-compared}
+use Rattle.model.proofs.TransitionLeaves.{leaves, living-fair}
 use Rattle.model.proofs.TokenPlaces.{stored-place}
-use Rattle.model.proofs.ReadLocks.{lock-says-nothing}
+use Rattle.model.proofs.Since.{since-held}
+use Rattle.model.proofs.Sensing.{alone, again, fronts, cleared, failed}
+use Rattle.model.proofs.Device.{device-final}
 use Rattle.model.proofs.Quiet.{after-unsensed}
+use Rattle.model.proofs.ReadLocks.{locks-last, lock-others, lock-says-nothing}
+use Rattle.model.proofs.DigestChecks.{digest-exact, digest-done, digest-only, digest-stored, digest-checks}
+use Rattle.model.proofs.FailedDigests.{sixes}
+use Rattle.model.proofs.FailedLifeCycles.{sevens}
+use Rattle.model.proofs.Everything.{everything}
 
 pub refusals : (prims : Primitives) (map : Map) → Refusals prims map
 refusals prims map = record {
@@ -31,6 +51,7 @@ refusals prims map = record {
   powerUps = power-ups-refuse prims map;
   transitions = transitions-refuse prims map;
   deaths = λ m x reason. deaths-told prims map m reason x;
+  leftOut = left-out prims map;
 }
 
 pub demand3 : (prims : Primitives) → Cipher prims → (map : Map) → fit map ≡ true → Demand3 prims map
@@ -45,19 +66,86 @@ demand3 prims C map F = record {
   strokes = never-four prims map F;
 }
 
-pub beyond : (prims : Primitives) → Cipher prims → (map : Map) → fit map ≡ true → Beyond prims map
-beyond prims C map F = record {
+pub burns : (prims : Primitives) → Cipher prims → (map : Map) → fit map ≡ true → Burns prims map
+burns prims C map F = record {
   taken = found-blank prims map F;
   burns = no-second-burn prims map F;
   granules = granule-final prims map F;
   refused = refused-named prims map;
   locked = locked-denied prims map;
+  exactly = write-exact prims map;
+  allowed = write-allowed prims C map F;
   lasting = reads-last prims C map F;
-  whole = λ m r n D l. whole-digests prims map F n D l m r;
-  device = device-final prims map F;
+}
+
+pub transitions : (prims : Primitives) (map : Map) → fit map ≡ true → Transitions prims map
+transitions prims map F = record {
+  nothing = λ m target high low. transitions-refuse prims map m target high low .0;
+  used = λ m target high low. step-told prims map m target high low F .used;
+  spent = λ m target high low. step-told prims map m target high low F .spent;
+  moved = λ m target high low. step-told prims map m target high low F .moved;
+  stopped = λ m target high low. step-told prims map m target high low F .stopped;
+  exactly = fair-exact prims map;
+  tokens = tokens-compared prims map;
+  fair = λ m r l e. (
+    living-fair prims map F (after prims map (PowerUp ∷ l) m) (after-right prims map (PowerUp ∷ l) m r) (since-living prims map F m r l) e,
+    never-four prims map F m r l,
+  );
+  leaves = λ m r l. leaves prims map F (after prims map (PowerUp ∷ l) m) (after-right prims map (PowerUp ∷ l) m r) (since-living prims map F m r l);
   courses = courses-run prims map F;
-  tokens = λ m l. transition-shows prims map (after prims map l m);
+  counts = counts;
   places = stored-place map F;
+}
+
+pub digests : (prims : Primitives) → DigestFits prims → (map : Map) → fit map ≡ true → Digests prims map
+digests prims G map F = record {
+  exactly = λ m r a. digest-exact prims map m a F r;
+  done = λ m r a z. digest-done prims map m a F r (digest-only prims map m a z);
+  stored = λ m r w a z. digest-stored prims map m a F r (digest-only prims map m a z) G w;
+  checks = λ m r w a z. digest-checks prims map m a F r (digest-only prims map m a z) G w;
+  whole = λ m r n D l. whole-digests prims map F n D l m r;
+}
+
+pub failed-power-ups : (prims : Primitives) → DigestFits prims → (map : Map) → fit map ≡ true → FailedPowerUps prims map
+failed-power-ups prims G map F = record { sixes = sixes prims map F G; sevens = sevens prims map F }
+
+pub read-locks : (prims : Primitives) (map : Map) → fit map ≡ true → ReadLocks prims map
+read-locks prims map F = record {
+  lasts = locks-last prims map F;
+  others = λ m n l. lock-others prims map n m l;
   lockless = lock-says-nothing prims map;
-  sensing = after-unsensed prims map;
+}
+
+pub sensing : (prims : Primitives) (map : Map) → fit map ≡ true → Sensing prims map
+sensing prims map F = record {
+  since = λ m r l₀ l₁ u. since-held prims map F m r l₀ l₁ u .holds;
+  fronts = fronts prims map F;
+  device = device-final prims map F;
+  unsensed = after-unsensed prims map;
+  cleared = cleared prims map;
+  failed = failed prims map;
+  alone = alone prims map;
+  again = again prims map;
+}
+
+pub claims : (prims : Primitives) → Cipher prims → DigestFits prims → (map : Map) → fit map ≡ true → Claims prims map
+claims prims C G map F = record {
+  demand3 = demand3 prims C map F;
+  refusals = refusals prims map;
+  burns = burns prims C map F;
+  oldRule = old-rule prims C map F;
+  transitions = transitions prims map F;
+  digests = digests prims G map F;
+  failedPowerUps = failed-power-ups prims G map F;
+  readLocks = read-locks prims map F;
+  sensing = sensing prims map F;
+}
+
+pub token-places : TokenPlaces
+unfolding everything map2
+token-places = record {
+  map1Places = λ copy. (refl, refl, refl);
+  map2Places = λ copy. (refl, refl, refl);
+  map1Locks = (refl, refl, refl);
+  map2Locks = (refl, refl, refl);
 }

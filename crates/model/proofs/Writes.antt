@@ -33,8 +33,8 @@ use Rattle.model.specs.Lent.{Machine, Primitives, keyOf}
 use Rattle.model.specs.Acts.{stay, Act, say, program, perform}
 use Rattle.model.specs.Commands.{directRule, granule, storedDigest, scrambled, unscrambled, writeAct, readAct, commandAct, readyAct}
 use Rattle.model.specs.Step.{Step, unchanged, performed, act, powerUp, step, after, machineAfter, answerTo}
-use Rattle.model.specs.Terms.{Right, Cipher, Digested, spares, storedWords, usedValue, Lasts, Spared, Allowed, TakesEffect}
-use Rattle.model.specs.Demand3.{Ready}
+use Rattle.model.specs.Claims.Terms.{Right, Cipher, Digested, spares, storedWords, usedValue, Lasts, Spared, Allowed, TakesEffect}
+use Rattle.model.specs.Claims.Demand3.{Ready}
 use Rattle.model.proofs.Acts.{after-done, Burnt, left, burnt, perform-once, not-done}
 use Rattle.model.proofs.Targets.{Written, write-once}
 use Rattle.model.proofs.Frame.{Sealed, by-aim, aimless-granule}

@@ -5,11 +5,7 @@ pub mod Acts
 pub mod Commands
 pub mod PowerUp
 pub mod Step
-pub mod Terms
-pub mod Refusals
-pub mod Demand3
-pub mod Beyond
-pub mod OldRule
+pub mod Claims
 pub mod CaseTables
 pub mod Cases
 pub mod CasesOfMap2

@@ -27,10 +27,12 @@ use Rattle.model.specs.PowerUp.{lifeCycleIn}
 use Rattle.model.specs.Step.{after, answers, machineAfter, answerTo}
 use Rattle.model.specs.CaseTables.{number}
 use Rattle.model.specs.Cases.{blank, table, Hold, blankDigest}
-use Rattle.model.specs.Terms.{Right, Cipher, Digested, storedWords, Lasts, Spared, usedValue, Allowed, Matched, HiddenWord, Alike}
-use Rattle.model.specs.Demand3.{Demand3, Ready}
+use Rattle.model.specs.Claims.Terms.{Right, Cipher, Digested, storedWords, Lasts, Spared, usedValue, Allowed, Matched, HiddenWord, Alike, Says}
+use Rattle.model.specs.Claims.Demand3.{Demand3, Ready}
 use Rattle.model.specs.Session.{readLocked}
-use Rattle.model.specs.Beyond.{Beyond, Says, Asked, writing, digesting, Named, Puts, writes, Source, put, stays, moves}
+use Rattle.model.specs.Claims.Transitions.{Asked, stays, moves}
+use Rattle.model.specs.Claims.Burns.{writing, digesting, Named}
+use Rattle.model.specs.Claims.Digests.{Puts, writes, Source, put}
 use Rattle.model.proofs.Everything.{everything}
 use Rattle.model.proofs.ToyChip.{toyWith, toy, off, ready, tested}
 use Rattle.model.proofs.Cases.{cases}

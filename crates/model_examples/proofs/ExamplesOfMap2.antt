@@ -24,10 +24,9 @@ use Rattle.model.specs.Lent.{Machine}
 use Rattle.model.specs.Commands.{directRule, granule}
 use Rattle.model.specs.Step.{step, after, answers, machineAfter, answerTo}
 use Rattle.model.specs.CaseTables.{arrayWith, offChip}
-use Rattle.model.specs.Terms.{Right, Lasts, Spared, usedValue, Allowed, TakesEffect}
+use Rattle.model.specs.Claims.Terms.{Right, Lasts, Spared, usedValue, Allowed, TakesEffect}
 use Rattle.model.specs.Demand3 as demand
-use Rattle.model.specs.Beyond.{Beyond}
-use Rattle.model.specs.OldRule.{InAuthState, twoWords, Gains, OldRule}
+use Rattle.model.specs.Claims.OldRule.{InAuthState, twoWords, Gains, OldRule}
 use Rattle.model.proofs.Everything.{everything}
 use Rattle.model.proofs.ToyChip.{toy}
 use Rattle.model.proofs.Theorems.{beyond}

@@ -80,3 +80,14 @@ additive-kind Secret0 e = absurd (true-not-false e refl)
 additive-kind Secret1 e = absurd (true-not-false e refl)
 additive-kind Secret2 e = absurd (true-not-false e refl)
 additive-kind LifeCycle e = absurd (true-not-false e refl)
+
+-- direct access is denied to LIFE_CYCLE alone
+pub life-cycle-only : (k : Kind) → rightsOf k .direct ≡ false → k ≡ LifeCycle
+unfolding rightsOf
+life-cycle-only Software e = absurd (true-not-false refl e)
+life-cycle-only AuthState e = absurd (true-not-false refl e)
+life-cycle-only HwCfg e = absurd (true-not-false refl e)
+life-cycle-only Secret0 e = absurd (true-not-false refl e)
+life-cycle-only Secret1 e = absurd (true-not-false refl e)
+life-cycle-only Secret2 e = absurd (true-not-false refl e)
+life-cycle-only LifeCycle e = refl

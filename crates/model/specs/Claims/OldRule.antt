@@ -18,8 +18,8 @@ use Rattle.model.specs.declared.Command.the-variants.{Write, PowerUp}
 use Rattle.model.specs.Lent.{Machine, Primitives}
 use Rattle.model.specs.Commands.{directRule, digestRule, storedDigest}
 use Rattle.model.specs.Step.{step, after, machineAfter, answerTo}
-use Rattle.model.specs.Terms.{Right, TakesEffect}
-use Rattle.model.specs.Demand3.{Ready}
+use Rattle.model.specs.Claims.Terms.{Right, TakesEffect}
+use Rattle.model.specs.Claims.Demand3.{Ready}
 
 -- an address in AUTH_STATE data
 pub record InAuthState (map : Map) (a : ℕ) : Type 0 where

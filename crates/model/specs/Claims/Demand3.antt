@@ -13,7 +13,7 @@ use Rattle.model.specs.Session.{readLocked}
 use Rattle.model.specs.Lent.{Machine, Primitives}
 use Rattle.model.specs.Commands.{storedDigest}
 use Rattle.model.specs.Step.{step, after, answers, machineAfter, answerTo}
-use Rattle.model.specs.Terms.{Right, Digested, SamePartition, Lasts, Spared, Allowed, TakesEffect, usedValue, Matched, Alike}
+use Rattle.model.specs.Claims.Terms.{Right, Digested, SamePartition, Lasts, Spared, Allowed, TakesEffect, usedValue, Matched, Alike}
 
 module _ (prims : Primitives) (map : Map) where
   -- Ready since a power-up: the commands l₀, a power-up that answers 0, and commands l₁ through which Ready lasts

@@ -3,6 +3,7 @@
 use Prim.Native.Nat.{ℕ}
 use mathlib.Core.Path.{_≡_}
 use mathlib.Core.Bool.{Bool, true, false, _||_}
+use mathlib.Core.List.{List, _∷_, _++_}
 use lib.Dec.{eqb}
 use Rattle.basics.specs.Choice.{if_then_else_}
 use Rattle.partitions.specs.Map.{Map}
@@ -11,12 +12,12 @@ use Rattle.model.specs.declared.Reason.the-variants.{BitCleared}
 use Rattle.model.specs.declared.Phase.{Phase}
 use Rattle.model.specs.declared.Phase.the-variants.{Inert, Dead}
 use Rattle.model.specs.declared.Command.{Command}
-use Rattle.model.specs.declared.Command.the-variants.{Transition, PowerUp}
+use Rattle.model.specs.declared.Command.the-variants.{Read, FrontRead, Transition, PowerUp}
 use Rattle.model.specs.Session.{reasonCode, inPhase}
 use Rattle.model.specs.Answers.{codeOf}
 use Rattle.model.specs.Lent.{Machine, Primitives}
-use Rattle.model.specs.Step.{machineAfter, answerTo}
-use Rattle.model.specs.Terms.{quiet}
+use Rattle.model.specs.Step.{after, answers, machineAfter, answerTo}
+use Rattle.model.specs.Claims.Terms.{quiet}
 
 -- the codes with which what is lent is refused
 abbrev pub judged : ℕ → Bool
@@ -31,6 +32,13 @@ unfoldable pub phaseAfter : ℕ → Phase
 phaseAfter code = if eqb code 0x04 then Dead BitCleared else Inert
 
 module _ (prims : Primitives) (map : Map) where
+  -- on this machine the command is a read, a front read, or one that is refused and no transition
+  pub data Idle (m : Machine) : Command → Type 0 where
+    reads : {a : ℕ} → Idle m (Read a)
+    frontReads : {a : ℕ} → Idle m (FrontRead a)
+    refused : {x : Command} → quiet x → (codeOf (answerTo prims map x m) ≡ 0x00 → ⊥) → Idle m x
+    unlent : judged (codeOf (answerTo prims map PowerUp m)) ≡ true → Idle m PowerUp
+
   pub record Refusals : Type 0 where
     -- a read, write, front read, digest or read lock that does not answer 0 leaves cells, copy and record as they were
     pub commands : (m : Machine) (x : Command) → quiet x → (codeOf (answerTo prims map x m) ≡ 0x00 → ⊥) → machineAfter prims map x m ≡ m
@@ -50,3 +58,10 @@ module _ (prims : Primitives) (map : Map) where
     -- a command that changes something and leaves the phase Dead has answered the reason
     pub deaths : (m : Machine) (x : Command) (reason : Reason) → (machineAfter prims map x m ≡ m → ⊥)
         → machineAfter prims map x m .session .phase ≡ Dead reason → codeOf (answerTo prims map x m) ≡ reasonCode reason
+    -- such a command can be left out of a list: what is lent and the record at the end, and every other answer, are the same without it
+    pub leftOut : (m : Machine) (l₁ l₂ : List Command) (x : Command)
+        → let m₁ = after prims map l₁ m in
+        Idle m₁ x
+        → (after prims map (l₁ ++ x ∷ l₂) m ≡ after prims map (l₁ ++ l₂) m)
+        × (answers prims map (l₁ ++ x ∷ l₂) m ≡ answers prims map l₁ m ++ answerTo prims map x m₁ ∷ answers prims map l₂ m₁)
+        × (answers prims map (l₁ ++ l₂) m ≡ answers prims map l₁ m ++ answers prims map l₂ m₁)

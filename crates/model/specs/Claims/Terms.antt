@@ -1,9 +1,10 @@
--- The terms in which the theorems over lists of commands are stated (document 01, 'Where the promises have to bite').
+-- The terms that claims of several subjects are stated in (document 01, 'Where the promises have to bite').
 use Prim.Native.Nat.{ℕ, _+_, _*_, _^_, _≤_, _<_}
 use mathlib.Core.Path.{_≡_}
 use mathlib.Core.Bool.{true, false, _&&_}
 use mathlib.Core.List.{List, [], _∷_}
 use lib.ListN.{length, getD}
+use Rattle.words.specs.declared.Rule.{Rule}
 use Rattle.words.specs.declared.Programmed.the-variants as programmed
 use Rattle.words.specs.Words.{numberOf, wordsOf, partAt}
 use Rattle.words.specs.Programming.{programAnswer}
@@ -13,7 +14,7 @@ use Rattle.model.specs.declared.Answer.{Answer}
 use Rattle.model.specs.declared.Answer.the-variants.{Done}
 use Rattle.model.specs.declared.Command.{Command}
 use Rattle.model.specs.declared.Command.the-variants.{Read, Write, FrontRead, Digest, ReadLock, Transition, PowerUp}
-use Rattle.model.specs.Answers.{codeOf}
+use Rattle.model.specs.Answers.{codeOf, valueOf}
 use Rattle.model.specs.Lent.{Machine, Primitives, rightLengths}
 use Rattle.model.specs.Commands.{directRule, scrambled, storedDigest}
 use Rattle.model.specs.Step.{Step, step, machineAfter, answerTo}
@@ -29,6 +30,24 @@ pub record Cipher (prims : Primitives) : Type 0 where
   pub fits : (key block : ℕ) → key < 2 ^ 128 → block < 2 ^ 64 → prims .encrypt key block < 2 ^ 64
   pub back : (key block : ℕ) → key < 2 ^ 128 → block < 2 ^ 64 → prims .decrypt key (prims .encrypt key block) ≡ block
 
+-- and of the digest: over words of 16 bits, with a start value of 64 bits and a final key of 128, it is a number of 64 bits
+pub record DigestFits (prims : Primitives) : Type 0 where
+  pub fits : (start final : ℕ) (words : List ℕ) → start < 2 ^ 64 → final < 2 ^ 128 → ((i : ℕ) → getD words i 0 < 65536) → prims .digest start final words < 2 ^ 64
+
+-- "words of 16 bits, the fuses"
+abbrev pub CellsFit : Machine → Type 0
+CellsFit m = (i : ℕ) → getD (m .lent .cells) i 0 < 65536
+
+-- an answer's code and value
+abbrev pub Says : ℕ → ℕ → Answer → Type 0
+Says code value answer = (codeOf answer ≡ code) × (valueOf answer ≡ value)
+
+-- "Otherwise the words become the value": every word is taken, they stand there, and no other cell changes
+pub record Put (rule : Rule) (at : ℕ) (words before after : List ℕ) : Type 0 where
+  pub taken : programAnswer rule before at words ≡ programmed.Done
+  pub holds : partAt after at (length words) ≡ words
+  pub others : (j : ℕ) → (at ≤ j → j < at + length words → ⊥) → getD after j 0 ≡ getD before j 0
+
 -- a partition of the map that has a digest
 pub record Digested (map : Map) (n : ℕ) : Type 0 where
   pub known : n < length map
@@ -43,6 +62,20 @@ abbrev pub Agree : {A : Type 0} → List A → List A → Type 0
 Agree [] l = Unit {0}
 Agree (a ∷ k) [] = Unit {0}
 Agree (a ∷ k) (b ∷ l) = (a ≡ b) × Agree k l
+
+-- no power-up
+abbrev pub notPowerUp : Command → Type 0
+notPowerUp (Read a) = Unit {0}
+notPowerUp (Write a value) = Unit {0}
+notPowerUp (FrontRead a) = Unit {0}
+notPowerUp (Digest a) = Unit {0}
+notPowerUp (ReadLock number) = Unit {0}
+notPowerUp (Transition target high low) = Unit {0}
+notPowerUp PowerUp = ⊥
+
+abbrev pub NoPowerUp : List Command → Type 0
+NoPowerUp [] = Unit {0}
+NoPowerUp (x ∷ l) = notPowerUp x × NoPowerUp l
 
 -- neither a power-up nor a transition
 abbrev pub quiet : Command → Type 0

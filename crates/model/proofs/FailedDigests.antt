@@ -1,0 +1,386 @@
+-- No digest fails silently. The idea: a check that passed fails after a write to the partition's data alone; such a write is allowed where the sensed digest is
+-- zero, and it spoils where the stored one is not: then a digest command put it there since the last power-up.
+use mathlib.Core.Path.{_≡_, refl, sym, ap, subst, _∙_}
+use mathlib.Core.Bool.{Bool, true, false, not, _&&_, _||_}
+use mathlib.Core.List.{List, [], _∷_, _++_}
+use mathlib.Core.Logic.{_⊎_, inl, inr, ⊎-elim}
+use mathlib.Core.Option.{Option, none, some}
+use Prim.Native.Nat.{ℕ, zero, suc, _+_, _*_, _/_, _^_, _≤_, _<_}
+use native.Mathlib.Omega.{arith}
+use lib.Dec.{eqb}
+use lib.ListN.{length, getD}
+use borrow.Author.Tests.{eqb-true, eqb-false, ne-eqb, leb-false, not-false}
+use Rattle.basics.proofs.Choice.{true-not-false, not-passed, by-cases, if-both, if-true, if-false, and-both, or-none-left}
+use Rattle.words.specs.Words.{wordsOf}
+use Rattle.words.specs.Programming.{programAnswer}
+use Rattle.partitions.specs.declared.Partition.{Partition}
+use Rattle.partitions.specs.Map.{Map, rightsOf, numberAt, partition, partitionAt, limit, inDigest, nowhere}
+use Rattle.partitions.specs.Fitness.{fit}
+use Rattle.partitions.proofs.KindRights.{hardware-direct}
+use Rattle.partitions.proofs.Map.{partition-at}
+use Rattle.life_cycle.specs.declared.LifeCycle.{LifeCycle}
+use Rattle.life_cycle.specs.declared.LifeCycle.the-variants.{Valid, Invalid}
+use Rattle.model.specs.declared.Answer.{Answer}
+use Rattle.model.specs.declared.Answer.the-variants.{Done, DigestFailed}
+use Rattle.model.specs.declared.Command.{Command}
+use Rattle.model.specs.declared.Command.the-variants.{Read, Write, FrontRead, Digest, ReadLock, Transition, PowerUp}
+use Rattle.model.specs.Answers.{codeOf, valueOf}
+use Rattle.model.specs.Session.{isReady, sensedAt, sensedLocked}
+use Rattle.model.specs.Lent.{Machine, Primitives}
+use Rattle.model.specs.Acts.{Act, Performed, perform}
+use Rattle.model.specs.Commands.{storedDigest, computedDigest, writeAct, commandAct, readyAct}
+use Rattle.model.specs.PowerUp.{Waking, digestHolds, firstFailing, verdictOf, lifeCycleIn, lifeCycleWaking, wakingOf, waking, wokenAnswer}
+use Rattle.model.specs.Step.{Step, unchanged, performed, act, powerUp, obey, after, machineAfter, answerTo}
+use Rattle.model.specs.Claims.Terms.{Right, Digested, SamePartition, notPowerUp, NoPowerUp, DigestFits, CellsFit}
+use Rattle.model.specs.Claims.Digests.{Puts, writes, computes, sparesData}
+use Rattle.model.specs.Claims.Sensing.{Since}
+use Rattle.model.specs.Claims.FailedPowerUps.{WrittenAfterDigest}
+use Rattle.model.proofs.Acts.{after-both}
+use Rattle.model.proofs.Frame.{not-locked}
+use Rattle.model.proofs.Steps.{step-both, step-up, step-right, step-constants, after-right, acted, obeys-act}
+use Rattle.model.proofs.Locks.{sensed-stored, turned-sensed, turned-ready}
+use Rattle.model.proofs.Ready.{first-fresh}
+use Rattle.model.proofs.Digests.{Change, kept, puts, step-changes}
+use Rattle.model.proofs.Refusals.{power-ups-refuse}
+use Rattle.model.proofs.NotReady.{no-power-up}
+use Rattle.model.proofs.Since.{up-held}
+use Rattle.model.proofs.Unified.{since-sensed}
+use Rattle.model.proofs.WordSizes.{step-small}
+use Rattle.model.proofs.DigestChecks.{zero-holds, step-holds}
+
+none-not-some : (n : ℕ) → some n ≡ none → ⊥
+none-not-some n e = true-not-false refl (ap (λ (o : Option ℕ). is-some o) e)
+  where
+    is-some : Option ℕ → Bool
+    is-some none = false
+    is-some (some i) = true
+
+some-same : {i n : ℕ} → some i ≡ some n → i ≡ n
+some-same e = cc
+
+-- ---- the first partition that fails
+
+module _ (prims : Primitives) (k c : List ℕ) where
+  nowhere-holds : digestHolds prims k c nowhere ≡ true
+  unfolding digestHolds nowhere rightsOf
+  nowhere-holds = refl
+
+  pub none-fails : (i : ℕ) (ps : Map) → firstFailing prims k c i ps ≡ none → (j : ℕ) → digestHolds prims k c (getD ps j nowhere) ≡ true
+  unfolding firstFailing
+  none-fails i [] e j = nowhere-holds
+  none-fails i (p ∷ ps) e zero = by-cases (digestHolds prims k c p) (λ t. t) (λ t. absurd (none-not-some _ (sym (if-false _ _ t) ∙ e)))
+  none-fails i (p ∷ ps) e (suc j) =
+      by-cases (digestHolds prims k c p) (λ t. none-fails (suc i) ps (sym (if-true _ _ t) ∙ e) j) (λ t. absurd (none-not-some _ (sym (if-false _ _ t) ∙ e)))
+
+  record Failing (i n : ℕ) (ps : Map) : Type 0 where
+    index : ℕ
+    is : n ≡ i + index
+    known : index < length ps
+    fails : digestHolds prims k c (getD ps index nowhere) ≡ false
+
+  some-fails : (i n : ℕ) (ps : Map) → firstFailing prims k c i ps ≡ some n → Failing i n ps
+  unfolding firstFailing
+  some-fails i n [] e = absurd (none-not-some n (sym e))
+  some-fails i n (p ∷ ps) e =
+      by-cases (digestHolds prims k c p)
+      (λ t. (let f = some-fails (suc i) n ps (sym (if-true _ _ t) ∙ e) in record { index = suc (f .index); is = omega (arith, f .is); known = omega (arith, f .known); fails = f .fails }))
+      (λ t. (let q = some-same (sym (if-false _ _ t) ∙ e) in record { index = 0; is = omega (arith, q); known = omega arith; fails = t }))
+
+-- ---- a write that answers 0
+
+record Wrote (map : Map) (m : Machine) (a : ℕ) : Type 0 where
+  ready : isReady (m .session .phase) ≡ true
+  open? : sensedAt (m .session) (numberAt map a) ≡ 0
+  soft : (rightsOf (partitionAt map a .kind) .hardware && inDigest (partitionAt map a) a) ≡ false
+
+write-only : (prims : Primitives) (map : Map) (m : Machine) (a value : ℕ) → codeOf (answerTo prims map (Write a value) m) ≡ 0x00 → Wrote map m a
+unfolding unchanged obey act performed readyAct commandAct writeAct perform
+write-only prims map m a value =
+    let Q : Act → Type 0 = λ x. codeOf (perform x (m .lent .copy) (m .lent .cells) .answer) ≡ 0x00 → Wrote map m a in
+    step-both prims map (λ (s : Step). codeOf (s .result .answer) ≡ 0x00 → Wrote map m a) (Write a value) m (λ answer e z. absurd (true-not-false e (rw z)))
+    (if-both Q _ _ _ (λ t z. absurd (omega arith)) λ r. if-both Q _ _ _ (λ t z. absurd (omega arith)) λ l. if-both Q _ _ _ (λ t z. absurd (omega arith)) λ d.
+    if-both Q _ _ _ (λ t z. absurd (omega arith)) λ h. if-both Q _ _ _ (λ t z. absurd (omega arith)) λ u z.
+    record { ready = not-false _ r; open? = not-locked _ _ u; soft = h })
+
+-- an act turns no phase Ready, and leaves what is sensed
+step-calm : (prims : Primitives) (map : Map) (n : ℕ) (x : Command) (m : Machine) → notPowerUp x
+    → (isReady (machineAfter prims map x m .session .phase) ≡ true → isReady (m .session .phase) ≡ true) × (sensedAt (machineAfter prims map x m .session) n ≡ sensedAt (m .session) n)
+unfolding unchanged act performed sensedAt
+step-calm prims map n x m u =
+    step-both prims map
+    (λ (s : Step). (isReady (s .result .machine .session .phase) ≡ true → isReady (m .session .phase) ≡ true) × (sensedAt (s .result .machine .session) n ≡ sensedAt (m .session) n)) x m
+    (λ answer e. ((λ q. q), refl))
+    (rw (obeys-act prims map x m (no-power-up prims map x u)) ((λ q. turned-ready _ (m .session) q), ap (λ (d : List ℕ). getD d n 0) (turned-sensed _ (m .session))))
+
+felt-stored : (prims : Primitives) (map : Map) (F : fit map ≡ true) (n : ℕ) → Digested map n → (m : Machine) → Right map m
+    → isReady (machineAfter prims map PowerUp m .session .phase) ≡ true → sensedAt (machineAfter prims map PowerUp m .session) n ≡ storedDigest (partition map n) (m .lent .cells)
+unfolding sensedAt
+felt-stored prims map F n D m r e =
+    ap (λ (d : List ℕ). getD d n 0) (up-held prims map F m r .holds e .sensed) ∙ sensed-stored prims map F n D (m .lent)
+
+isDigest : Command → Bool
+isDigest (Read a) = false
+isDigest (Write a value) = false
+isDigest (FrontRead a) = false
+isDigest (Digest a) = true
+isDigest (ReadLock number) = false
+isDigest (Transition target high low) = false
+isDigest PowerUp = false
+
+no-digest : {x : Command} {a : ℕ} → isDigest x ≡ false → x ≡ Digest a → ⊥
+unfolding isDigest
+no-digest f e = true-not-false (ap isDigest e) f
+
+digest-same : {a b : ℕ} → Digest a ≡ Digest b → a ≡ b
+digest-same e = cc
+
+module _ (prims : Primitives) (map : Map) (F : fit map ≡ true) (n : ℕ) (D : Digested map n) (hard : rightsOf (partition map n .kind) .hardware ≡ true) (G : DigestFits prims) where
+  abbrev p : Partition
+  p = partition map n
+
+  abbrev Holds : Machine → Type 0
+  Holds m = digestHolds prims (m .lent .constants) (m .lent .cells) p ≡ true
+
+  abbrev stored : Machine → ℕ
+  stored m = storedDigest p (m .lent .cells)
+
+  -- ---- what a command is to the partition
+
+  data Class (x : Command) (m : Machine) : Type 0 where
+    seals : {a : ℕ} → x ≡ Digest a → a ≡ p .start → codeOf (answerTo prims map (Digest a) m) ≡ 0x00 → Class x m
+    spoils : {a value : ℕ} → x ≡ Write a value → numberAt map a ≡ n → inDigest (partitionAt map a) a ≡ false → codeOf (answerTo prims map (Write a value) m) ≡ 0x00
+        → stored (machineAfter prims map x m) ≡ stored m → Class x m
+    powers : x ≡ PowerUp → Class x m
+    others : notPowerUp x → sparesData map n x (answerTo prims map x m) → stored (machineAfter prims map x m) ≡ stored m → Class x m
+
+  -- the stored digest stays, but for a digest command
+  keeps-digest : (x : Command) (m : Machine) → Right map m → ((a value : ℕ) → x ≡ Digest a → a ≡ p .start → answerTo prims map x m ≡ Done value → ⊥)
+      → stored (machineAfter prims map x m) ≡ stored m
+  keeps-digest x m r h = go x (answerTo prims map x m) refl refl (step-changes prims map F n D x m r)
+    where
+      go : (y : Command) (answer : Answer) → x ≡ y → answerTo prims map x m ≡ answer
+          → Change prims map F n D y (m .lent .cells) (machineAfter prims map x m .lent .cells) answer
+          → storedDigest (partition map n) (machineAfter prims map x m .lent .cells) ≡ storedDigest (partition map n) (m .lent .cells)
+      go y answer e f (kept q) = q
+      go y answer e f (puts (writes {a = a} {value = value} q d v)) =
+          let w = write-only prims map m a value (rw e at (ap codeOf f)) in
+          let b = partition-at map a q in
+          let firm : rightsOf (partitionAt map a .kind) .hardware ≡ true = rw b hard in
+          let deep : inDigest (partitionAt map a) a ≡ true = rw b d in
+          absurd (true-not-false (and-both _ _ firm deep) (w .soft))
+      go y answer e f (puts (computes {a = a} {value = value} q v)) = absurd (h a value e q f)
+
+  quiet-class : (x : Command) (m : Machine) → Right map m → isDigest x ≡ false → notPowerUp x → sparesData map n x (answerTo prims map x m) → Class x m
+  quiet-class x m r d u s = others u s (keeps-digest x m r (λ a value e q f. no-digest d e))
+
+  write-class : (m : Machine) → Right map m → (a value : ℕ) → Class (Write a value) m
+  unfolding isDigest
+  write-class m r a value =
+      let same = keeps-digest (Write a value) m r (λ b v e q f. no-digest refl e) in
+      by-cases (eqb (numberAt map a) n)
+      (λ t. by-cases (inDigest (partitionAt map a) a) (λ d. others tt (λ i e z. true-not-false d e) same)
+      (λ d. by-cases (eqb (codeOf (answerTo prims map (Write a value) m)) 0x00) (λ z. spoils refl (eqb-true _ _ t) d (eqb-true _ _ z) same)
+      (λ z. others tt (λ i e q. eqb-false _ _ z q) same)))
+      (λ t. others tt (λ i e z. eqb-false _ _ t i) same)
+
+  digest-class : (m : Machine) → Right map m → (a : ℕ) → Class (Digest a) m
+  digest-class m r a =
+      by-cases (eqb a (p .start))
+      (λ t. by-cases (eqb (codeOf (answerTo prims map (Digest a) m)) 0x00) (λ z. seals refl (eqb-true _ _ t) (eqb-true _ _ z))
+      (λ z. others tt tt (keeps-digest (Digest a) m r (λ b v e q f. eqb-false _ _ z (ap codeOf f)))))
+      (λ t. others tt tt (keeps-digest (Digest a) m r (λ b v e q f. eqb-false _ _ t (digest-same e ∙ q))))
+
+  classify : (x : Command) (m : Machine) → Right map m → Class x m
+  unfolding isDigest
+  classify (Read a) m r = quiet-class (Read a) m r refl tt tt
+  classify (Write a value) m r = write-class m r a value
+  classify (FrontRead a) m r = quiet-class (FrontRead a) m r refl tt tt
+  classify (Digest a) m r = digest-class m r a
+  classify (ReadLock number) m r = quiet-class (ReadLock number) m r refl tt tt
+  classify (Transition target high low) m r = quiet-class (Transition target high low) m r refl tt tt
+  classify PowerUp m r = powers refl
+
+  -- ---- the invariant
+
+  -- the partition passes, and a Ready record has sensed the digest that is stored
+  record Good (m : Machine) : Type 0 where
+    holds : Holds m
+    felt : isReady (m .session .phase) ≡ true → sensedAt (m .session) n ≡ stored m
+
+  next-holds : (x : Command) (m : Machine) → Right map m → CellsFit m → Holds m → sparesData map n x (answerTo prims map x m) → Holds (machineAfter prims map x m)
+  next-holds x m r w h s = rw (step-constants prims map x m) (step-holds prims map F n D hard G x m r w h s)
+
+  -- sensed digests stay, but for a power-up
+  next-felt : (x : Command) (m : Machine) → notPowerUp x → Good m → stored (machineAfter prims map x m) ≡ stored m
+      → isReady (machineAfter prims map x m .session .phase) ≡ true → sensedAt (machineAfter prims map x m .session) n ≡ stored (machineAfter prims map x m)
+  next-felt x m u g e r = (calm .1 ∙ g .felt (calm .0 r)) ∙ sym e
+    where
+      calm : (isReady (machineAfter prims map x m .session .phase) ≡ true → isReady (m .session .phase) ≡ true) × (sensedAt (machineAfter prims map x m .session) n ≡ sensedAt (m .session) n)
+      calm = step-calm prims map n x m u
+
+  power-good : (m : Machine) → Right map m → Holds m → Good (machineAfter prims map PowerUp m)
+  power-good m r h = record { holds = rw (step-constants prims map PowerUp m, cells) h; felt = sense }
+    where
+      cells : machineAfter prims map PowerUp m .lent .cells ≡ m .lent .cells
+      cells = power-ups-refuse prims map m .0
+
+      sense : isReady (machineAfter prims map PowerUp m .session .phase) ≡ true
+          → sensedAt (machineAfter prims map PowerUp m .session) n ≡ storedDigest (partition map n) (machineAfter prims map PowerUp m .lent .cells)
+      sense e = felt-stored prims map F n D m r e ∙ sym (ap (storedDigest (partition map n)) cells)
+
+  -- ---- over a list
+
+  -- a write to the partition's data that answers 0, before any power-up
+  record Found (m : Machine) (l : List Command) : Type 0 where
+    between : List Command
+    behind : List Command
+    address : ℕ
+    value : ℕ
+    split : l ≡ between ++ Write address value ∷ behind
+    noPowerUp : NoPowerUp between
+    part : numberAt map address ≡ n
+    isData : inDigest (partitionAt map address) address ≡ false
+    written : codeOf (answerTo prims map (Write address value) (after prims map between m)) ≡ 0x00
+
+  found-later : (x : Command) (m : Machine) (l : List Command) → notPowerUp x → Found (machineAfter prims map x m) l → Found m (x ∷ l)
+  found-later x m l u f = record {
+    between = x ∷ f .between; behind = f .behind; address = f .address; value = f .value;
+    split = ap (λ (k : List Command). x ∷ k) (f .split);
+    noPowerUp = (u, f .noPowerUp);
+    part = f .part; isData = f .isData;
+    written = unfold after in (f .written);
+  }
+
+  spoilt-later : (x : Command) (m : Machine) (l : List Command) → WrittenAfterDigest prims map (machineAfter prims map x m) l n → WrittenAfterDigest prims map m (x ∷ l) n
+  spoilt-later x m l f = record {
+    before = x ∷ f .before; between = f .between; behind = f .behind; at = f .at; address = f .address; value = f .value;
+    split = ap (λ (k : List Command). x ∷ k) (f .split);
+    noPowerUp = f .noPowerUp; digestPart = f .digestPart; writtenPart = f .writtenPart; writtenData = f .writtenData;
+    digested = unfold after in (f .digested);
+    written = unfold after in (f .written);
+  }
+
+  spoilt-here : (a : ℕ) (m : Machine) (l : List Command) → a ≡ p .start → codeOf (answerTo prims map (Digest a) m) ≡ 0x00 → Found (machineAfter prims map (Digest a) m) l → WrittenAfterDigest prims map m (Digest a ∷ l) n
+  spoilt-here a m l s z f = record {
+    before = []; between = f .between; behind = f .behind; at = a; address = f .address; value = f .value;
+    split = ap (λ (k : List Command). Digest a ∷ k) (f .split);
+    noPowerUp = f .noPowerUp; digestPart = s; writtenPart = f .part; writtenData = f .isData;
+    digested = unfold after in z;
+    written = unfold after in (f .written);
+  }
+
+  abbrev Fails : Machine → Type 0
+  Fails m = digestHolds prims (m .lent .constants) (m .lent .cells) p ≡ false
+
+  -- a write that is allowed finds the digest zero, or a digest command put it there
+  spoils-good : (x : Command) (m : Machine) {a value : ℕ} → x ≡ Write a value → numberAt map a ≡ n → codeOf (answerTo prims map (Write a value) m) ≡ 0x00
+      → stored (machineAfter prims map x m) ≡ stored m → notPowerUp x → Good m → Good (machineAfter prims map x m)
+  spoils-good x m {a} {value} e i z same u g =
+      let w = write-only prims map m a value z in
+      let zero : stored m ≡ 0 = sym (g .felt (w .ready)) ∙ rw i at (w .open?) in
+      record { holds = zero-holds prims map F n D _ _ (same ∙ zero); felt = next-felt x m u g same }
+
+  abbrev From-good : List Command → Type 0
+  From-good l = (m : Machine) → Right map m → CellsFit m → Good m → Fails (after prims map l m) → WrittenAfterDigest prims map m l n
+
+  abbrev From-holds : List Command → Type 0
+  From-holds l = (m : Machine) → Right map m → CellsFit m → Holds m → Fails (after prims map l m) → Found m l ⊎ WrittenAfterDigest prims map m l n
+
+  more-good : (x : Command) (l : List Command) → From-good l → From-holds l → From-good (x ∷ l)
+  unfolding after
+  more-good x l f h m r w g fails = go (classify x m r)
+    where
+      r₁ : Right map (machineAfter prims map x m)
+      r₁ = step-right prims map x m r
+
+      w₁ : CellsFit (machineAfter prims map x m)
+      w₁ = step-small prims map x m r (record { small = w }) .small
+
+      on : Good (machineAfter prims map x m) → WrittenAfterDigest prims map m (x ∷ l) n
+      on g₁ = spoilt-later x m l (f (machineAfter prims map x m) r₁ w₁ g₁ fails)
+
+      go : Class x m → WrittenAfterDigest prims map m (x ∷ l) n
+      go (seals {a = a} e s z) =
+          subst (λ (y : Command). WrittenAfterDigest prims map m (y ∷ l) n) (sym e)
+          (⊎-elim (λ q. spoilt-here a m l s z q) (λ q. spoilt-later (Digest a) m l q)
+          (rw e at (h (machineAfter prims map x m) r₁ w₁ (next-holds x m r w (g .holds) (subst (λ (y : Command). sparesData map n y (answerTo prims map x m)) (sym e) tt)) fails)))
+      go (spoils e i d z same) = on (spoils-good x m e i z same (subst notPowerUp (sym e) tt) g)
+      go (powers e) = on (subst (λ (y : Command). Good (machineAfter prims map y m)) (sym e) (power-good m r (g .holds)))
+      go (others u s same) = on (record { holds = next-holds x m r w (g .holds) s; felt = next-felt x m u g same })
+
+  more-holds : (x : Command) (l : List Command) → From-good l → From-holds l → From-holds (x ∷ l)
+  unfolding after
+  more-holds x l f h m r w k fails = go (classify x m r)
+    where
+      r₁ : Right map (machineAfter prims map x m)
+      r₁ = step-right prims map x m r
+
+      w₁ : CellsFit (machineAfter prims map x m)
+      w₁ = step-small prims map x m r (record { small = w }) .small
+
+      on : notPowerUp x → Holds (machineAfter prims map x m) → Found m (x ∷ l) ⊎ WrittenAfterDigest prims map m (x ∷ l) n
+      on u k₁ = ⊎-elim (λ q. inl (found-later x m l u q)) (λ q. inr (spoilt-later x m l q)) (h (machineAfter prims map x m) r₁ w₁ k₁ fails)
+
+      go : Class x m → Found m (x ∷ l) ⊎ WrittenAfterDigest prims map m (x ∷ l) n
+      go (seals e s z) = on (subst notPowerUp (sym e) tt) (next-holds x m r w k (subst (λ (y : Command). sparesData map n y (answerTo prims map x m)) (sym e) tt))
+      go (spoils {a = a} {value = value} e i d z same) = inl (record {
+        between = []; behind = l; address = a; value = value; split = ap (λ (y : Command). y ∷ l) e; noPowerUp = tt; part = i; isData = d; written = z;
+      })
+      go (powers e) = inr (spoilt-later x m l (f (machineAfter prims map x m) r₁ w₁ (subst (λ (y : Command). Good (machineAfter prims map y m)) (sym e) (power-good m r k)) fails))
+      go (others u s same) = on u (next-holds x m r w k s)
+
+  both : (l : List Command) → From-good l × From-holds l
+  unfolding after
+  both [] = ((λ m r w g fails. absurd (true-not-false (g .holds) fails)), λ m r w k fails. absurd (true-not-false k fails))
+  both (x ∷ l) = let q = both l in (more-good x l (q .0) (q .1), more-holds x l (q .0) (q .1))
+
+-- ---- the theorem
+
+failed-verdict : (v : Option ℕ) (life : LifeCycle) (n : ℕ) → wokenAnswer (wakingOf v life) ≡ DigestFailed n → v ≡ some n
+unfolding wokenAnswer wakingOf lifeCycleWaking
+failed-verdict (some number) life n e = ap some (ap valueOf e)
+failed-verdict none Invalid n e = absurd (omega (arith, ap codeOf e))
+failed-verdict none (Valid state count) n e =
+    absurd (if-both (λ (w : Waking). wokenAnswer w ≡ DigestFailed n → ⊥) (eqb state 20) _ _ (λ t q. omega (arith, ap codeOf q)) (λ t q. omega (arith, ap codeOf q)) e)
+
+module _ (prims : Primitives) (map : Map) (F : fit map ≡ true) where
+  hard-of : (k c : List ℕ) (p : Partition) → digestHolds prims k c p ≡ false → rightsOf (p .kind) .hardware ≡ true
+  unfolding digestHolds
+  hard-of k c p e = not-false _ (or-none-left (not (rightsOf (p .kind) .hardware)) _ (or-none-left (not (rightsOf (p .kind) .hardware) || eqb (storedDigest p c) 0) _ e))
+
+  up-failing : (m : Machine) → Right map m → (n : ℕ) → answerTo prims map PowerUp m ≡ DigestFailed n → Failing prims (m .lent .constants) (m .lent .cells) 0 n map
+  unfolding powerUp waking verdictOf
+  up-failing m r n e = some-fails prims (m .lent .constants) (m .lent .cells) 0 n map (failed-verdict _ (lifeCycleIn map (m .lent)) n (rw (step-up prims map m r, answerTo) at e))
+
+  pub sixes : DigestFits prims → (m : Machine) → Right map m → CellsFit m → codeOf (answerTo prims map PowerUp m) ≡ 0x00 → (l : List Command) (n : ℕ)
+      → answerTo prims map PowerUp (after prims map (PowerUp ∷ l) m) ≡ DigestFailed n → WrittenAfterDigest prims map (machineAfter prims map PowerUp m) l n
+  unfolding after partition
+  sixes G m r w z l n e =
+      let m₀ = machineAfter prims map PowerUp m in
+      let r₀ = step-right prims map PowerUp m r in
+      let m₁ = after prims map l m₀ in
+      let f = up-failing m₁ (after-right prims map l m₀ r₀) n e in
+      let is : f .index ≡ n = omega (arith, f .is) in
+      let bad : digestHolds prims (m₁ .lent .constants) (m₁ .lent .cells) (partition map n) ≡ false = rw is at (f .fails) in
+      let hard = hard-of (m₁ .lent .constants) (m₁ .lent .cells) (partition map n) bad in
+      let D : Digested map n = record { known = rw is at (f .known); direct = hardware-direct _ hard } in
+      let s = up-held prims map F m r .holds (first-fresh prims map F m r z .awake) in
+      let first : digestHolds prims (m .lent .constants) (m .lent .cells) (partition map n) ≡ true =
+          none-fails prims (m .lent .constants) (m .lent .cells) 0 map (rw (step-constants prims map PowerUp m) at (s .checked)) n in
+      both prims map F n D hard G l .0 m₀ r₀ (step-small prims map PowerUp m r (record { small = w }) .small) (power-good prims map F n D hard G m r first) bad
+
+-- ---- request Seven: "the digest recomputed .. equals the sensed digest", over the words that the last power-up found, which are those stored now
+
+module _ (prims : Primitives) (map : Map) (F : fit map ≡ true) (n : ℕ) (D : Digested map n) (hard : rightsOf (partition map n .kind) .hardware ≡ true) where
+  holds-equal : (k c : List ℕ) → digestHolds prims k c (partition map n) ≡ true → (storedDigest (partition map n) c ≡ 0 → ⊥)
+      → storedDigest (partition map n) c ≡ computedDigest prims k (partition map n) c
+  unfolding digestHolds
+  holds-equal k c e z = eqb-true _ _ (rw (hard, ne-eqb (storedDigest (partition map n) c) 0 z) at e)
+
+  pub since-computed : (c₀ : List ℕ) (m : Machine) → Since prims map c₀ m → (sensedAt (m .session) n ≡ 0 → ⊥)
+      → (computedDigest prims (m .lent .constants) (partition map n) c₀ ≡ sensedAt (m .session) n) × SamePartition map n c₀ (m .lent .cells)
+  unfolding partition
+  since-computed c₀ m s z =
+      let e = since-sensed prims map F c₀ m s n D in
+      let q : storedDigest (partition map n) c₀ ≡ 0 → ⊥ = λ t. z (e ∙ t) in
+      (sym (e ∙ holds-equal (m .lent .constants) c₀ (none-fails prims (m .lent .constants) c₀ 0 map (s .checked) n) q), s .locked n D q)

@@ -1,0 +1,160 @@
+-- What a power-up found, until the next. The idea: a command that leaves the phase Ready is no transition that spent a stroke; so it leaves the life cycle
+-- words, and what is sensed locked, as they were, and no command but power-up writes the copy or the sensed digests.
+use mathlib.Core.Path.{_≡_, refl, sym, ap, subst, _∙_}
+use mathlib.Core.Bool.{Bool, true, false}
+use mathlib.Core.List.{List, [], _∷_, _++_}
+use mathlib.Core.Logic.{_⊎_, inl, inr, ⊎-elim}
+use mathlib.Core.Option.{Option, none, some}
+use Prim.Native.Nat.{ℕ, _+_, _*_, _/_, _≤_, _<_}
+use native.Mathlib.Omega.{arith}
+use lib.Dec.{eqb}
+use lib.ListN.{getD}
+use borrow.Author.Tests.{eqb-false}
+use Rattle.basics.specs.Range.{listed}
+use Rattle.basics.proofs.Choice.{true-not-false, by-cases, if-both}
+use Rattle.partitions.specs.declared.Kind.the-variants as kind
+use Rattle.partitions.specs.Map.{Map, rightsOf, partition, partitionAt, limit, numberOfKind}
+use Rattle.partitions.specs.Fitness.{fit}
+use Rattle.partitions.proofs.Map.{only, partition-at, life-cycle-last, life-cycle-partition}
+use Rattle.life_cycle.specs.declared.LifeCycle.{LifeCycle}
+use Rattle.life_cycle.specs.declared.LifeCycle.the-variants.{Valid, Invalid}
+use Rattle.model.specs.declared.Reason.the-variants as reason
+use Rattle.model.specs.declared.Answer.the-variants.{LifeCycleFailed}
+use Rattle.model.specs.declared.Command.{Command}
+use Rattle.model.specs.declared.Command.the-variants.{Read, Write, FrontRead, Digest, ReadLock, Transition, PowerUp}
+use Rattle.model.specs.Answers.{codeOf}
+use Rattle.model.specs.Session.{isReady, sensedAt}
+use Rattle.model.specs.Lent.{Lent, Machine, Primitives}
+use Rattle.model.specs.Acts.{turned}
+use Rattle.model.specs.Commands.{storedDigest}
+use Rattle.model.specs.PowerUp.{Waking, fails, wakes, digests, firstFailing, verdictOf, lifeCycleIn, copyWord, waking, wakingOf, lifeCycleWaking, wokenCopy, wokenSession}
+use Rattle.model.specs.Step.{Step, unchanged, performed, act, powerUp, step, after, machineAfter, answerTo}
+use Rattle.model.specs.Claims.Terms.{Right, Digested, SamePartition, notPowerUp, NoPowerUp}
+use Rattle.model.specs.Claims.Refusals.{early, phaseAfter}
+use Rattle.model.specs.Claims.Sensing.{Since}
+use Rattle.model.proofs.Acts.{perform-frame}
+use Rattle.model.proofs.Frame.{Open, unlocked, lifeCycle, isTransition, life-closed, act-within}
+use Rattle.model.proofs.Steps.{after-append, step-all, obeys-act, step-obeys, step-up, up-right, act-right, step-right, after-right, acted, poweredUp}
+use Rattle.model.proofs.Locks.{same-refl, same-trans, turned-sensed, turned-ready, sensed-stored, stored-same, Locked, act-same}
+use Rattle.model.proofs.Strokes.{turned-life, up-life, others-life}
+use Rattle.model.proofs.Refusals.{transitions-refuse}
+use Rattle.model.proofs.NotReady.{no-power-up}
+use Rattle.model.proofs.TransitionLeaves.{later-phase}
+
+module _ (prims : Primitives) (map : Map) (F : fit map ≡ true) where
+  -- ---- a power-up that leaves the phase Ready
+
+  record Woke (v : Option ℕ) (life : LifeCycle) (w : Waking) (l : Lent) : Type 0 where
+    checked : v ≡ none
+    decodes : life ≡ Valid (wokenSession map w l .state) (wokenSession map w l .count)
+    notScrap : wokenSession map w l .state ≡ 20 → ⊥
+    copy : wokenCopy prims map w l ≡ listed (copyWord prims map (l .constants) (l .cells)) 0 (limit map / 2)
+    sensed : wokenSession map w l .sensed ≡ digests (l .cells) map
+
+  woke : (v : Option ℕ) (life : LifeCycle) (l : Lent) → isReady (wokenSession map (wakingOf v life) l .phase) ≡ true → Woke v life (wakingOf v life) l
+  unfolding wakingOf lifeCycleWaking wokenSession wokenCopy isReady
+  woke (some number) life l = λ e. absurd (true-not-false e refl)
+  woke none Invalid l = λ e. absurd (true-not-false e refl)
+  woke none (Valid state count) l =
+      if-both (λ (w : Waking). isReady (wokenSession map w l .phase) ≡ true → Woke none (Valid state count) w l)
+      (eqb state 20) (fails reason.LifeCycleFailed (LifeCycleFailed (256 * count + state))) (wakes state count) (λ t e. absurd (true-not-false e refl))
+      (λ t e. record { checked = refl; decodes = refl; notScrap = eqb-false _ _ t; copy = refl; sensed = refl })
+
+  -- the invariant: while the phase is Ready
+  pub record Held (c₀ : List ℕ) (m : Machine) : Type 0 where
+    pub right : Right map m
+    pub holds : isReady (m .session .phase) ≡ true → Since prims map c₀ m
+
+  up-since : (m : Machine) → Right map m → isReady (poweredUp prims map m .session .phase) ≡ true → Since prims map (m .lent .cells) (poweredUp prims map m)
+  unfolding powerUp waking verdictOf
+  up-since m r e =
+      let w = woke (verdictOf prims map (m .lent)) (lifeCycleIn map (m .lent)) (m .lent) e in
+      record {
+        right = up-right prims map m r;
+        checked = w .checked;
+        sensed = w .sensed;
+        copy = w .copy;
+        unmoved = same-refl;
+        life = up-life prims map F m ∙ w .decodes;
+        notScrap = w .notScrap;
+        locked = λ n D z. same-refl;
+      }
+
+  pub up-held : (m : Machine) → Right map m → Held (m .lent .cells) (machineAfter prims map PowerUp m)
+  up-held m r = rw (step-up prims map m r, machineAfter) (record { right = up-right prims map m r; holds = up-since m r })
+
+  -- ---- a command that is neither power-up nor transition
+
+  life-shut : (x : Command) (m : Machine) → isTransition x ≡ false → SamePartition map (numberOfKind map kind.LifeCycle) (m .lent .cells) (acted prims map x m .lent .cells)
+  unfolding act performed
+  life-shut x m n = record { at = λ j lo hi. sym (perform-frame (act-within prims map F m x) (m .lent .copy) (m .lent .cells) j (shut j lo hi)) }
+    where
+      shut : (j : ℕ) → partition map (numberOfKind map kind.LifeCycle) .start ≤ 2 * j → 2 * j < partition map (numberOfKind map kind.LifeCycle) .end → Open map x (m .session) j → ⊥
+      shut j lo hi (unlocked r d z aim) = true-not-false d (life-closed prims map F j (only map F (omega (arith, life-cycle-last map F)) lo hi))
+      shut j lo hi (lifeCycle r t e) = true-not-false t n
+
+  since-locked : (c₀ : List ℕ) (m : Machine) → Since prims map c₀ m → (n : ℕ) (D : Digested map n) → (storedDigest (partition map n) c₀ ≡ 0 → ⊥) → Locked prims map F n D m
+  unfolding sensedAt
+  since-locked c₀ m s n D z = record {
+    burnt = λ e. z (stored-same prims map F n D c₀ (m .lent .cells) (s .locked n D z) ∙ e);
+    felt = λ r e. z (sym (sensed-stored prims map F n D (record { cells = c₀; copy = []; constants = [] })) ∙ sym (ap (λ (d : List ℕ). getD d n 0) (s .sensed)) ∙ e);
+  }
+
+  act-since : (c₀ : List ℕ) (x : Command) (m : Machine) → isTransition x ≡ false → Since prims map c₀ m → Since prims map c₀ (acted prims map x m)
+  act-since c₀ x m n s = record {
+    right = act-right prims map x m (s .right);
+    checked = unfold act performed in (s .checked);
+    sensed = unfold act performed in (turned-sensed _ (m .session) ∙ s .sensed);
+    copy = unfold act performed in (s .copy);
+    unmoved = same-trans (s .unmoved) (life-shut x m n);
+    life = others-life prims map F x m n ∙ (unfold act performed in (rw (turned-life _ _ .0, turned-life _ _ .1) (s .life)));
+    notScrap = unfold act performed in (rw (turned-life _ _ .0) (s .notScrap));
+    locked = λ k D z. same-trans (s .locked k D z) (act-same prims map F k D x m (since-locked c₀ m s k D z));
+  }
+
+  -- ---- every command but power-up
+
+  acts-held : (c₀ : List ℕ) (x : Command) (m : Machine) → notPowerUp x → isTransition x ≡ false → Held c₀ m → Held c₀ (machineAfter prims map x m)
+  acts-held c₀ x m u n h = rw (step-obeys prims map x m (h .right) ∙ obeys-act prims map x m (no-power-up prims map x u), machineAfter) (record {
+    right = act-right prims map x m (h .right);
+    holds = λ e. act-since c₀ x m n (h .holds (ready e));
+  })
+    where
+      ready : isReady (acted prims map x m .session .phase) ≡ true → isReady (m .session .phase) ≡ true
+      ready = unfold act performed in (turned-ready _ (m .session))
+
+  -- a transition that leaves the phase Ready changes nothing
+  transition-held : (c₀ : List ℕ) (m : Machine) (target high low : ℕ) → Held c₀ m → Held c₀ (machineAfter prims map (Transition target high low) m)
+  transition-held c₀ m target high low h = record { right = step-right prims map x m (h .right); holds = go }
+    where
+      x : Command
+      x = Transition target high low
+
+      code : ℕ
+      code = codeOf (answerTo prims map x m)
+
+      go : isReady (machineAfter prims map x m .session .phase) ≡ true → Since prims map c₀ (machineAfter prims map x m)
+      go e =
+          by-cases (early (codeOf (answerTo prims map (Transition target high low) m)))
+          (λ t. (let q = transitions-refuse prims map m target high low .0 t in subst (Since prims map c₀) (sym q) (h .holds (rw q at e))))
+          (λ t. absurd (true-not-false e (ap (λ s. isReady (s .phase)) (transitions-refuse prims map m target high low .1 t .1) ∙ later-phase code)))
+
+  step-held : (c₀ : List ℕ) (x : Command) (m : Machine) → notPowerUp x → Held c₀ m → Held c₀ (machineAfter prims map x m)
+  unfolding isTransition
+  step-held c₀ (Read a) m u h = acts-held c₀ (Read a) m u refl h
+  step-held c₀ (Write a value) m u h = acts-held c₀ (Write a value) m u refl h
+  step-held c₀ (FrontRead a) m u h = acts-held c₀ (FrontRead a) m u refl h
+  step-held c₀ (Digest a) m u h = acts-held c₀ (Digest a) m u refl h
+  step-held c₀ (ReadLock number) m u h = acts-held c₀ (ReadLock number) m u refl h
+  step-held c₀ (Transition target high low) m u h = transition-held c₀ m target high low h
+  step-held c₀ PowerUp m u h = absurd u
+
+  pub after-held : (c₀ : List ℕ) (l : List Command) (m : Machine) → NoPowerUp l → Held c₀ m → Held c₀ (after prims map l m)
+  unfolding after
+  after-held c₀ [] m u h = h
+  after-held c₀ (x ∷ l) m u h = after-held c₀ l (machineAfter prims map x m) (u .1) (step-held c₀ x m (u .0) h)
+
+  pub since-held : (m : Machine) → Right map m → (l₀ l₁ : List Command) → NoPowerUp l₁ → Held (after prims map l₀ m .lent .cells) (after prims map (l₀ ++ PowerUp ∷ l₁) m)
+  since-held m r l₀ l₁ u =
+      let m₀ = after prims map l₀ m in
+      rw after-append (unfold after in (after-held (m₀ .lent .cells) l₁ (machineAfter prims map PowerUp m₀) u (up-held m₀ (after-right prims map l₀ m r))))

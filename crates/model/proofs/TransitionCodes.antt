@@ -1,0 +1,220 @@
+-- When a transition gives each code. The idea: where the words are taken, the table's entry and the token decide the code (`due`); each end has that code, or a 4.
+use mathlib.Core.Path.{_≡_, refl, sym, ap, _∙_}
+use mathlib.Core.Bool.{Bool, true, false}
+use mathlib.Core.List.{List}
+use mathlib.Core.Logic.{_↔_, _⊎_, ⊎-elim}
+use Prim.Native.Nat.{ℕ, _+_, _*_, _^_, _≤_, _<_}
+use native.Mathlib.Omega.{arith}
+use lib.Dec.{eqb}
+use borrow.Author.Tests.{eqb-false}
+use Rattle.basics.proofs.Choice.{true-not-false, if-true, if-false}
+use Rattle.words.proofs.Programming.{refused-not-done, program-elsewhere, answer-same}
+use Rattle.partitions.specs.Map.{Map, numberOfKind}
+use Rattle.life_cycle.specs.declared.Token.{Token}
+use Rattle.life_cycle.specs.declared.Token.the-variants.{Nothing, RawUnlock, TestUnlock, TestExit, Rma}
+use Rattle.life_cycle.specs.declared.Entry.{Entry}
+use Rattle.life_cycle.specs.declared.Entry.the-variants.{Allowed, Forbidden}
+use Rattle.life_cycle.specs.Transitions.{transition}
+use Rattle.model.specs.declared.Answer.{Answer}
+use Rattle.model.specs.declared.Command.the-variants.{Transition}
+use Rattle.model.specs.Answers.{codeOf}
+use Rattle.model.specs.Session.{sensedLocked}
+use Rattle.model.specs.Lent.{Machine, Primitives, rawUnlockHash}
+use Rattle.model.specs.Commands.{tokenKind, hashesTo, storedToken}
+use Rattle.model.specs.Step.{answerTo}
+use Rattle.model.specs.Claims.Transitions.{Stops, counterRefused, stateRefused, strokeWords, Compared, Asked, strokeOnly, isStored, Fair, Unlocked}
+use Rattle.model.proofs.TransitionEnds.{struck, move, Ending, unknownTarget, used, counterStops, notInTable, tokenNotLocked, tokenDiffers, stateStops, moved, Room, step-ends}
+
+module _ (prims : Primitives) (map : Map) (m : Machine) (target given : ℕ) where
+  -- the code that the table's entry comes to, where the words are taken
+  sameCode : Bool → ℕ
+  sameCode true = 0x00
+  sameCode false = 0x23
+
+  storedCode : Token → ℕ
+  storedCode token =
+      if sensedLocked (m .session) (numberOfKind map (tokenKind token)) then sameCode (hashesTo prims given (storedToken map token (m .lent .copy))) else 0x22
+
+  tokenCode : Token → ℕ
+  tokenCode Nothing = 0x00
+  tokenCode RawUnlock = sameCode (hashesTo prims given (rawUnlockHash (m .lent .constants)))
+  tokenCode TestUnlock = storedCode TestUnlock
+  tokenCode TestExit = storedCode TestExit
+  tokenCode Rma = storedCode Rma
+
+  entryCode : Entry → ℕ
+  entryCode Forbidden = 0x21
+  entryCode (Allowed token) = tokenCode token
+
+  abbrev due : ℕ
+  due = entryCode (transition (m .session .state) target)
+
+  forbidden-due : transition (m .session .state) target ≡ Forbidden → due ≡ 0x21
+  unfolding entryCode
+  forbidden-due e = rw e
+
+  open-code : (token : Token) → isStored token ≡ true → sensedLocked (m .session) (numberOfKind map (tokenKind token)) ≡ false → tokenCode token ≡ 0x22
+  unfolding tokenCode storedCode
+  open-code Nothing s e = absurd (true-not-false s refl)
+  open-code RawUnlock s e = absurd (true-not-false s refl)
+  open-code TestUnlock s e = if-false _ _ e
+  open-code TestExit s e = if-false _ _ e
+  open-code Rma s e = if-false _ _ e
+
+  open-due : Unlocked prims map m target → due ≡ 0x22
+  unfolding entryCode
+  open-due u = rw (u .allowed) (open-code (u .token) (u .stored) (u .notLocked))
+
+  compared-code : (token : Token) (same : Bool) → Compared prims map m given same token → tokenCode token ≡ sameCode same
+  unfolding tokenCode storedCode sameCode
+  compared-code Nothing same e = rw e
+  compared-code RawUnlock same e = rw e
+  compared-code TestUnlock same e = if-true _ _ (e .0) ∙ ap sameCode (e .1)
+  compared-code TestExit same e = if-true _ _ (e .0) ∙ ap sameCode (e .1)
+  compared-code Rma same e = if-true _ _ (e .0) ∙ ap sameCode (e .1)
+
+  asked-due : (same : Bool) → Asked prims map m target given same → due ≡ sameCode same
+  unfolding entryCode
+  asked-due same a = rw (a .allowed) (compared-code (a .token) same (a .compared))
+
+  -- which of the three ranges an end lies in
+  data Place (code : ℕ) : Type 0 where
+    past : 20 < target → code ≡ 0x11 → Place code
+    spentAll : target ≤ 20 → 24 ≤ m .session .count → code ≡ 0x20 → Place code
+    within : target ≤ 20 → m .session .count < 24 → (code ≡ 0x11 → ⊥) → (code ≡ 0x20 → ⊥) → ((code ≡ 0x04 → ⊥) → code ≡ due) → Place code
+
+  within-code : {answer answer′ : Answer} → Room prims map m target given → answer ≡ answer′ → eqb (codeOf answer′) 0x11 ≡ false → eqb (codeOf answer′) 0x20 ≡ false
+      → ((codeOf answer′ ≡ 0x04 → ⊥) → codeOf answer′ ≡ due) → Place (codeOf answer)
+  within-code r e f g h = rw e (within (r .0) (r .1) (eqb-false _ _ f) (eqb-false _ _ g) h)
+
+  place : {answer : Answer} {cells : List ℕ} → Ending prims map m target given answer cells → Place (codeOf answer)
+  unfolding sameCode
+  place (unknownTarget h e) = rw e (past h refl)
+  place (used l h e f) = rw e (spentAll l h refl)
+  place (counterStops r h e f) = within-code r e refl refl (λ n. absurd (n refl))
+  place (notInTable t h e f) = within-code (t .0) e refl refl (λ n. sym (forbidden-due h))
+  place (tokenNotLocked t h e f) = within-code (t .0) e refl refl (λ n. sym (open-due h))
+  place (tokenDiffers t h e f) = within-code (t .0) e refl refl (λ n. sym (asked-due false h))
+  place (stateStops t a h e f) = within-code (t .0) e refl refl (λ n. absurd (n refl))
+  place (moved t h g e f) = within-code (t .0) e refl refl (λ n. sym (asked-due true h))
+
+  -- what led to it
+  record Causes (code : ℕ) : Type 0 where
+    no-entry : code ≡ 0x21 → transition (m .session .state) target ≡ Forbidden
+    no-lock : code ≡ 0x22 → Unlocked prims map m target
+    other : code ≡ 0x23 → Asked prims map m target given false
+    same : code ≡ 0x00 → Asked prims map m target given true
+
+  -- a code that is none of these
+  no-why : {answer answer′ : Answer} → answer ≡ answer′ → strokeOnly (codeOf answer′) ≡ false → eqb (codeOf answer′) 0x00 ≡ false → Causes (codeOf answer)
+  unfolding strokeOnly
+  no-why e f g = rw e (record {
+    no-entry = λ q. absurd (true-not-false (rw q) f); no-lock = λ q. absurd (true-not-false (rw q) f); other = λ q. absurd (true-not-false (rw q) f);
+    same = λ q. absurd (eqb-false _ _ g q);
+  })
+
+  why : {answer : Answer} {cells : List ℕ} → Ending prims map m target given answer cells → Causes (codeOf answer)
+  unfolding strokeOnly
+  why (unknownTarget h e) = no-why e refl refl
+  why (used l h e f) = no-why e refl refl
+  why (counterStops r h e f) = no-why e refl refl
+  why (notInTable t h e f) = rw e (record { no-entry = λ q. h; no-lock = λ q. absurd (omega arith); other = λ q. absurd (omega arith); same = λ q. absurd (omega arith) })
+  why (tokenNotLocked t h e f) = rw e (record { no-entry = λ q. absurd (omega arith); no-lock = λ q. h; other = λ q. absurd (omega arith); same = λ q. absurd (omega arith) })
+  why (tokenDiffers t h e f) = rw e (record { no-entry = λ q. absurd (omega arith); no-lock = λ q. absurd (omega arith); other = λ q. h; same = λ q. absurd (omega arith) })
+  why (stateStops t a h e f) = no-why e refl refl
+  why (moved t h g e f) = rw e (record { no-entry = λ q. absurd (omega arith); no-lock = λ q. absurd (omega arith); other = λ q. absurd (omega arith); same = λ q. h })
+
+  past-only : {code : ℕ} → Place code → (code ≡ 0x11) ↔ (20 < target)
+  past-only (past h e) = ((λ q. h), λ q. e)
+  past-only (spentAll l h e) = ((λ q. absurd (omega arith)), λ q. absurd (omega arith))
+  past-only (within l r f g h) = ((λ q. absurd (f q)), λ q. absurd (omega arith))
+
+  used-only : {code : ℕ} → m .session .count ≤ 24 → Place code → (code ≡ 0x20) ↔ ((target ≤ 20) × (m .session .count ≡ 24))
+  used-only c (past h e) = ((λ q. absurd (omega arith)), λ q. absurd (omega (arith, q .0)))
+  used-only c (spentAll l h e) = ((λ q. (l, omega arith)), λ q. e)
+  used-only c (within l r f g h) = ((λ q. absurd (g q)), λ q. absurd (omega (arith, q .1)))
+
+  is-due : {code : ℕ} → Place code → target ≤ 20 → m .session .count < 24 → (code ≡ 0x04 → ⊥) → code ≡ due
+  is-due (past h e) l c n = absurd (omega arith)
+  is-due (spentAll k h e) l c n = absurd (omega arith)
+  is-due (within k r f g h) l c n = h n
+
+  -- ---- when it stops with a 4
+
+  -- the state words are asked of cells that the stroke did not change
+  state-same : programAnswer lifeCycleRule (struck prims map m target given) (stateAt map) (move prims map m target given)
+      ≡ programAnswer lifeCycleRule (m .lent .cells) (stateAt map) (stateWords (m .lent .constants) target)
+  unfolding stateAt
+  state-same =
+      answer-same lifeCycleRule (stateWords (m .lent .constants) target) _ (m .lent .cells) (counterAt map + 24)
+      (λ j l u. program-elsewhere lifeCycleRule (m .lent .cells) (strokeWords prims map m) (counterAt map) j
+      (λ lo hi. omega (arith, counter-length (m .lent .constants) (suc (m .session .count)))))
+
+  four-stops : {answer : Answer} {cells : List ℕ} → Ending prims map m target given answer cells → codeOf answer ≡ 0x04 → Stops prims map m target given
+  four-stops (unknownTarget h e) = rw e (λ q. absurd (omega arith))
+  four-stops (used l h e f) = rw e (λ q. absurd (omega arith))
+  four-stops (counterStops r h e f) = λ q. counterRefused h
+  four-stops (notInTable t h e f) = rw e (λ q. absurd (omega arith))
+  four-stops (tokenNotLocked t h e f) = rw e (λ q. absurd (omega arith))
+  four-stops (tokenDiffers t h e f) = rw e (λ q. absurd (omega arith))
+  four-stops (stateStops t a h e f) = λ q. stateRefused (t .1) a (sym state-same ∙ h)
+  four-stops (moved t h g e f) = rw e (λ q. absurd (omega arith))
+
+  -- where the counter words are taken, the table's token was given and the state words are refused
+  record StateRefused : Type 0 where
+    same : due ≡ 0x00
+    cell : ℕ
+    refused : programAnswer lifeCycleRule (m .lent .cells) (stateAt map) (stateWords (m .lent .constants) target) ≡ programmed.Refused cell
+
+  state-refused : programAnswer lifeCycleRule (m .lent .cells) (counterAt map) (strokeWords prims map m) ≡ programmed.Done → Stops prims map m target given → StateRefused
+  unfolding sameCode
+  state-refused e (counterRefused h) = absurd (refused-not-done (sym h ∙ e))
+  state-refused e (stateRefused {cell = cell} t a h) = record { same = asked-due true a; cell = cell; refused = h }
+
+  stops-four : {answer : Answer} {cells : List ℕ} → target ≤ 20 → m .session .count < 24 → Ending prims map m target given answer cells
+      → Stops prims map m target given → codeOf answer ≡ 0x04
+  unfolding sameCode
+  stops-four l c (unknownTarget h e) s = absurd (omega arith)
+  stops-four l c (used k h e f) s = absurd (omega arith)
+  stops-four l c (counterStops r h e f) s = rw e
+  stops-four l c (notInTable t h e f) s = absurd (omega (arith, state-refused (t .1) s .same, forbidden-due h))
+  stops-four l c (tokenNotLocked t h e f) s = absurd (omega (arith, state-refused (t .1) s .same, open-due h))
+  stops-four l c (tokenDiffers t h e f) s = absurd (omega (arith, state-refused (t .1) s .same, asked-due false h))
+  stops-four l c (stateStops t a h e f) s = rw e
+  stops-four l c (moved t h g e f) s = absurd (refused-not-done (sym (state-refused (t .1) s .refused) ∙ sym state-same ∙ g))
+
+  -- ---- each code
+
+  abbrev pub Exact : ℕ → Type 0
+  Exact code =
+      ((code ≡ 0x11) ↔ (20 < target))
+      × ((code ≡ 0x20) ↔ ((target ≤ 20) × (m .session .count ≡ 24)))
+      × (target ≤ 20 → m .session .count < 24
+      → ((code ≡ 0x04) ↔ Stops prims map m target given)
+      × ((code ≡ 0x04 → ⊥)
+      → ((code ≡ 0x21) ↔ (transition (m .session .state) target ≡ Forbidden))
+      × ((code ≡ 0x22) ↔ Unlocked prims map m target)
+      × ((code ≡ 0x23) ↔ Asked prims map m target given false)
+      × ((code ≡ 0x00) ↔ Asked prims map m target given true)))
+
+  exact : m .session .count ≤ 24 → {answer : Answer} {cells : List ℕ} → Ending prims map m target given answer cells → Exact (codeOf answer)
+  unfolding sameCode
+  exact c e =
+      let p = place e in
+      let w = why e in
+      (past-only p, used-only c p, λ l k. ((four-stops e, stops-four l k e), λ n.
+      (let d = is-due p l k n in
+      ((w .no-entry, λ q. d ∙ forbidden-due q), (w .no-lock, λ q. d ∙ open-due q), (w .other, λ q. d ∙ asked-due false q), (w .same, λ q. d ∙ asked-due true q)))))
+
+pub fair-exact : (prims : Primitives) (map : Map) (m : Machine) → Fair prims map m → (target high low : ℕ)
+    → Exact prims map m target (high * 2 ^ 64 + low) (codeOf (answerTo prims map (Transition target high low) m))
+fair-exact prims map m f target high low =
+    ⊎-elim (λ a. absurd (a .1 f)) (λ a. exact prims map m target (high * 2 ^ 64 + low) (f .count) (a .2)) (step-ends prims map m target high low)
+
+pub tokens-compared : (prims : Primitives) (map : Map) (m : Machine) (target high low : ℕ)
+    → let code = codeOf (answerTo prims map (Transition target high low) m) in
+    (code ≡ 0x00 → Asked prims map m target (high * 2 ^ 64 + low) true) × (code ≡ 0x23 → Asked prims map m target (high * 2 ^ 64 + low) false)
+unfolding early
+tokens-compared prims map m target high low =
+    ⊎-elim (λ a. ((λ q. absurd (true-not-false (a .0) (rw q))), λ q. absurd (true-not-false (a .0) (rw q))))
+    (λ a. (let w = why prims map m target (high * 2 ^ 64 + low) (a .2) in (w .same, w .other))) (step-ends prims map m target high low)

@@ -1,0 +1,153 @@
+-- The ends of a transition. The idea: past the early refusals it has eight ends, each with what led to it and the cells that it leaves; whatever is claimed of its
+-- answers is read off the list of ends.
+use mathlib.Core.Path.{_≡_, refl}
+use mathlib.Core.Bool.{Bool, true, false, not}
+use mathlib.Core.List.{List}
+use mathlib.Core.Logic.{_⊎_, inl, inr, ⊎-elim}
+use Prim.Native.Nat.{ℕ, _+_, _*_, _^_, _≤_, _<_}
+use lib.Dec.{eqb, leb, ltb}
+use borrow.Author.Tests.{eqb-true, not-false, not-true, leb-true, leb-false, ltb-true, ltb-false, le-leb}
+use Rattle.basics.proofs.Choice.{true-not-false, by-cases, if-both, and-both}
+use Rattle.words.specs.declared.Programmed.the-variants as programmed
+use Rattle.words.specs.Programming.{programAnswer, programCells}
+use Rattle.partitions.specs.Map.{Map}
+use Rattle.life_cycle.specs.declared.Token.{Token}
+use Rattle.life_cycle.specs.declared.Token.the-variants.{Nothing, RawUnlock, TestUnlock, TestExit, Rma}
+use Rattle.life_cycle.specs.declared.Entry.{Entry}
+use Rattle.life_cycle.specs.declared.Entry.the-variants.{Allowed, Forbidden}
+use Rattle.life_cycle.specs.Words.{stateWords}
+use Rattle.life_cycle.specs.Constants.{validConstants}
+use Rattle.life_cycle.specs.Transitions.{transition}
+use Rattle.model.specs.declared.Answer.{Answer}
+use Rattle.model.specs.declared.Answer.the-variants.{Done, NotBlank, NotReady, UnknownTarget, StrokesUsed, NotInTable, TokenNotLocked, TokenDiffers}
+use Rattle.model.specs.declared.Command.the-variants.{Transition}
+use Rattle.model.specs.Answers.{codeOf}
+use Rattle.model.specs.Session.{isReady}
+use Rattle.model.specs.Lent.{Machine, Primitives, rightLengths}
+use Rattle.model.specs.Acts.{Act, say, program, compare, Performed, perform, noting, stay, halt, die}
+use Rattle.model.specs.Commands.{lifeCycleRule, counterAt, stateAt, moveAct, lockedTokenAct, tokenAct, entryAct, transitionAct, commandAct, readyAct}
+use Rattle.model.specs.Step.{Step, unchanged, performed, act, obey, step, machineAfter, answerTo}
+use Rattle.model.specs.Claims.Refusals.{early}
+use Rattle.model.specs.Claims.Transitions.{Stored, Compared, Asked, strokeOnly, isStored, strokeWords, Fair, Unlocked}
+use Rattle.model.proofs.Acts.{after-both}
+use Rattle.model.proofs.Steps.{outcome}
+
+-- an early code is none of those after the stroke
+pub clash : (code : ℕ) → early code ≡ true → strokeOnly code ≡ true → ⊥
+unfolding early strokeOnly
+clash code e q = by-cases (eqb code 0x21) (λ t. true-not-false e (rw (eqb-true code 0x21 t))) λ f.
+    by-cases (eqb code 0x22) (λ t. true-not-false e (rw (eqb-true code 0x22 t))) λ g.
+    by-cases (eqb code 0x23) (λ t. true-not-false e (rw (eqb-true code 0x23 t))) λ h. true-not-false q (rw (f, g, h))
+
+module _ (prims : Primitives) (map : Map) (m : Machine) (target given : ℕ) where
+  abbrev pub cells₀ : List ℕ
+  cells₀ = m .lent .cells
+
+  abbrev pub copy : List ℕ
+  copy = m .lent .copy
+
+  abbrev pub stroke : List ℕ
+  stroke = strokeWords prims map m
+
+  -- the cells once a stroke is spent
+  abbrev pub struck : List ℕ
+  struck = programCells lifeCycleRule cells₀ (counterAt map) stroke
+
+  abbrev pub move : List ℕ
+  move = stateWords (m .lent .constants) target
+
+  abbrev pub Room : Type 0
+  Room = (target ≤ 20) × (m .session .count < 24)
+
+  abbrev pub Taken : Type 0
+  Taken = Room × (programAnswer lifeCycleRule cells₀ (counterAt map) stroke ≡ programmed.Done)
+
+  pub data Ending (answer : Answer) (cells : List ℕ) : Type 0 where
+    unknownTarget : 20 < target → answer ≡ UnknownTarget → Ending answer cells
+    used : target ≤ 20 → 24 ≤ m .session .count → answer ≡ StrokesUsed → cells ≡ cells₀ → Ending answer cells
+    counterStops : {cell : ℕ} → Room → programAnswer lifeCycleRule cells₀ (counterAt map) stroke ≡ programmed.Refused cell → answer ≡ NotBlank cell → cells ≡ cells₀ → Ending answer cells
+    notInTable : Taken → transition (m .session .state) target ≡ Forbidden → answer ≡ NotInTable → cells ≡ struck → Ending answer cells
+    tokenNotLocked : Taken → Unlocked prims map m target → answer ≡ TokenNotLocked → cells ≡ struck → Ending answer cells
+    tokenDiffers : Taken → Asked prims map m target given false → answer ≡ TokenDiffers → cells ≡ struck → Ending answer cells
+    stateStops : {cell : ℕ} → Taken → Asked prims map m target given true → programAnswer lifeCycleRule struck (stateAt map) move ≡ programmed.Refused cell
+        → answer ≡ NotBlank cell → cells ≡ struck → Ending answer cells
+    moved : Taken → Asked prims map m target given true → programAnswer lifeCycleRule struck (stateAt map) move ≡ programmed.Done → answer ≡ Done 0
+        → cells ≡ programCells lifeCycleRule struck (stateAt map) move → Ending answer cells
+
+  abbrev Ends : Performed → Type 0
+  Ends r = Ending (r .answer) (r .cells)
+
+  moves : Taken → Asked prims map m target given true → Ends (perform (moveAct prims map m target) copy struck)
+  unfolding moveAct perform
+  moves t asked = after-both Ends (programAnswer lifeCycleRule struck (stateAt map) move) _ _ (λ e. moved t asked e refl refl) (λ cell e. stateStops t asked e refl refl)
+
+  compares : (token : Token) → transition (m .session .state) target ≡ Allowed token → (test : List ℕ → Bool)
+      → ((same : Bool) → test copy ≡ same → Compared prims map m given same token) → Taken
+      → Ends (perform (compare test (moveAct prims map m target) (say TokenDiffers halt)) copy struck)
+  unfolding perform noting
+  compares token e test h t =
+      if-both Ends (test copy) _ _ (λ s. moves t (record { token = token; allowed = e; compared = h true s }))
+      (λ s. tokenDiffers t (record { token = token; allowed = e; compared = h false s }) refl refl)
+
+  locked : (token : Token) → isStored token ≡ true → transition (m .session .state) target ≡ Allowed token
+      → ((same : Bool) → Stored prims map m given same token → Compared prims map m given same token) → Taken
+      → Ends (perform (lockedTokenAct prims map m token target given) copy struck)
+  unfolding lockedTokenAct
+  locked token i e h t =
+      if-both (λ (a : Act). Ends (perform a copy struck)) _ _ _
+      (λ s. unfold perform in (tokenNotLocked t (record { token = token; allowed = e; stored = i; notLocked = not-true _ s }) refl refl))
+      (λ s. compares token e _ (λ same q. h same (not-false _ s, q)) t)
+
+  asks : (entry : Entry) → transition (m .session .state) target ≡ entry → Taken → Ends (perform (entryAct prims map m entry target given) copy struck)
+  unfolding entryAct tokenAct
+  asks Forbidden e t = unfold perform in (notInTable t e refl refl)
+  asks (Allowed Nothing) e t = moves t (record { token = Nothing; allowed = e; compared = refl })
+  asks (Allowed RawUnlock) e t = compares RawUnlock e _ (λ same s. s) t
+  asks (Allowed TestUnlock) e t = locked TestUnlock refl e (λ same s. s) t
+  asks (Allowed TestExit) e t = locked TestExit refl e (λ same s. s) t
+  asks (Allowed Rma) e t = locked Rma refl e (λ same s. s) t
+
+  strikes : Room → Ends (perform (program lifeCycleRule (counterAt map) stroke die (entryAct prims map m (transition (m .session .state) target) target given)) copy cells₀)
+  unfolding perform
+  strikes room = after-both Ends (programAnswer lifeCycleRule cells₀ (counterAt map) stroke) _ _ (λ e. asks _ refl (room, e)) (λ cell e. counterStops room e refl refl)
+
+  -- once the record is judged
+  ends : Ends (perform
+      (if not (leb target 20) then say UnknownTarget stay
+      else if not (ltb (m .session .count) 24) then say StrokesUsed halt
+      else program lifeCycleRule (counterAt map) stroke die (entryAct prims map m (transition (m .session .state) target) target given)) copy cells₀)
+  ends =
+      let to : Act → Type 0 = λ a. Ends (perform a copy cells₀) in
+      if-both to _ _ _ (λ t. unfold perform in (unknownTarget (leb-false target 20 (not-true _ t)) refl))
+      λ t. if-both to _ _ _ (λ u. unfold perform in (used (leb-true target 20 (not-false _ t)) (ltb-false (m .session .count) 24 (not-true _ u)) refl refl))
+      λ u. strikes (leb-true target 20 (not-false _ t), ltb-true (m .session .count) 24 (not-false _ u))
+
+  -- the whole act: the phase, then the record, then these
+  pub act-ends : (high low : ℕ) → given ≡ high * 2 ^ 64 + low
+      → ((outcome prims map (Transition target high low) m .answer ≡ NotReady) × (Fair prims map m → ⊥))
+      ⊎ ((isReady (m .session .phase) ≡ true) × Ends (outcome prims map (Transition target high low) m))
+  unfolding readyAct commandAct transitionAct
+  act-ends high low e =
+      let to : Act → Type 0 = λ a. ((perform a copy cells₀ .answer ≡ NotReady) × (Fair prims map m → ⊥)) ⊎ ((isReady (m .session .phase) ≡ true) × Ends (perform a copy cells₀)) in
+      rw (← e) (if-both to _ _ _ (λ t. inl (unfold perform in (refl, λ f. true-not-false (f .ready) (not-true _ t))))
+      λ t. if-both to _ _ _ (λ u. inl (unfold perform in (refl, λ f. true-not-false (and-both (leb (m .session .state) 20) _ (le-leb _ _ (f .state)) (le-leb _ _ (f .count))) (not-true _ u))))
+      λ u. inr (not-false _ t, ends))
+
+-- ---- the whole command
+
+module _ (prims : Primitives) (map : Map) (m : Machine) (target high low : ℕ) where
+  abbrev token : ℕ
+  token = high * 2 ^ 64 + low
+
+  -- it is refused early, by a chip that is not fair, or it comes to one of the ends
+  abbrev pub Ended : Answer → List ℕ → Type 0
+  Ended answer cells =
+      ((early (codeOf answer) ≡ true) × (Fair prims map m → ⊥)) ⊎ ((rightLengths map (m .lent) ≡ true) × (isReady (m .session .phase) ≡ true) × Ending prims map m target token answer cells)
+
+  pub step-ends : Ended (answerTo prims map (Transition target high low) m) (machineAfter prims map (Transition target high low) m .lent .cells)
+  unfolding step unchanged obey act performed early
+  step-ends =
+      let Q : Step → Type 0 = λ s. Ended (s .result .answer) (s .result .machine .lent .cells) in
+      if-both Q (not (rightLengths map (m .lent))) _ _ (λ e. inl (refl, λ f. true-not-false (f .lengths) (not-true _ e)))
+      λ e. if-both Q (not (validConstants (m .lent .constants))) _ _ (λ v. inl (refl, λ f. true-not-false (f .valid) (not-true _ v)))
+      λ v. ⊎-elim (λ a. inl (rw (a .0) refl, a .1)) (λ a. inr (not-false _ e, a .0, a .1)) (act-ends prims map m target token high low refl)

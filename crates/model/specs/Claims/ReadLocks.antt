@@ -1,0 +1,43 @@
+-- Read locks: what a lock refuses, until when, and that nothing else looks at it.
+use Prim.Native.Nat.{ℕ}
+use mathlib.Core.Path.{_≡_}
+use mathlib.Core.Bool.{Bool, false}
+use mathlib.Core.List.{List, _∷_}
+use Rattle.basics.specs.Choice.{if_then_else_}
+use Rattle.partitions.specs.Map.{Map, rightsOf, numberAt, partitionAt, inDigest}
+use Rattle.model.specs.declared.Answer.the-variants.{Denied, NotReady}
+use Rattle.model.specs.declared.Command.{Command}
+use Rattle.model.specs.declared.Command.the-variants.{Read, Write, FrontRead, Digest, ReadLock, Transition, PowerUp}
+use Rattle.model.specs.Answers.{codeOf}
+use Rattle.model.specs.Session.{isReady, withLocks}
+use Rattle.model.specs.Lent.{Machine, Primitives}
+use Rattle.model.specs.Step.{after, machineAfter, answerTo}
+use Rattle.model.specs.Claims.Terms.{Right, NoPowerUp}
+
+-- the command reads data of partition n
+abbrev pub readsData : Map → ℕ → Command → Type 0
+readsData map n (Read a) = (numberAt map a ≡ n) × (inDigest (partitionAt map a) a ≡ false)
+readsData map n (Write a value) = ⊥
+readsData map n (FrontRead a) = ⊥
+readsData map n (Digest a) = ⊥
+readsData map n (ReadLock number) = ⊥
+readsData map n (Transition target high low) = ⊥
+readsData map n PowerUp = ⊥
+
+module _ (prims : Primitives) (map : Map) where
+  pub record ReadLocks : Type 0 where
+    -- "Lasts until power-up": from a read lock that answers 0 on, every read of the partition's data answers 5, or 7 where the phase is not Ready
+    pub lasts : (m : Machine) → Right map m → (l₀ : List Command) (n : ℕ)
+        → let m₀ = after prims map (PowerUp ∷ l₀) m in
+        codeOf (answerTo prims map (ReadLock n) m₀) ≡ 0x00
+        → (l : List Command) → NoPowerUp l
+        → let m₁ = after prims map l (machineAfter prims map (ReadLock n) m₀) in
+        (a : ℕ) → readsData map n (Read a) → answerTo prims map (Read a) m₁ ≡ (if isReady (m₁ .session .phase) then Denied else NotReady)
+    -- "for data, not digests, also if the partition is read-locked": all else is as without the lock, every answer and all that is lent, whatever follows
+    pub others : (m : Machine) (n : ℕ) (l : List Command)
+        → let m₁ = after prims map l (machineAfter prims map (ReadLock n) m) in
+        let m₂ = after prims map l m in
+        (m₁ .lent ≡ m₂ .lent) × ((x : Command) → (readsData map n x → ⊥) → answerTo prims map x m₁ ≡ answerTo prims map x m₂)
+    -- a read lock of a partition whose kind has none says nothing: whatever locks the record holds, a read there answers the same
+    pub lockless : (m : Machine) (a : ℕ) → rightsOf (partitionAt map a .kind) .lockable ≡ false → (locks : List Bool)
+        → answerTo prims map (Read a) (record { lent = m .lent; session = withLocks locks (m .session) }) ≡ answerTo prims map (Read a) m
