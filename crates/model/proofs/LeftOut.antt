@@ -22,13 +22,13 @@ use Rattle.model.proofs.Refusals.{same-machine, commands-refuse, power-
 data AnswersOnly : Act → Type 0 where
   says : {answer : Answer} → AnswersOnly (say answer stay)
 
-answers-if : {b : Bool} {x y : Act} → AnswersOnly x → AnswersOnly y → AnswersOnly (if b then x else y)
-answers-if {b} {x} {y} f g = if-both AnswersOnly b x y (λ e. f) (λ e. g)
+answers-if : (b : Bool) {x y : Act} → AnswersOnly x → AnswersOnly y → AnswersOnly (if b then x else y)
+answers-if b {x} {y} f g = if-both AnswersOnly b x y (λ e. f) (λ e. g)
 
 module _ (prims : Primitives) (map : Map) (m : Machine) where
   same-after : {x : Act} → AnswersOnly x → performed (perform x (m .lent .copy) (m .lent .cells)) m .result .machine ≡ m
   unfolding performed perform
-  same-after says = same-machine prims map m _ refl refl
+  same-after (says {answer}) = same-machine prims map m (record { cells = m .lent .cells; answer = answer; turn = stay; compared = [] }) refl refl
 
   read-same : (a : ℕ) → machineAfter prims map (Read a) m ≡ m
   unfolding unchanged obey act
@@ -55,7 +55,7 @@ module _ (prims : Primitives) (map : Map) where
   answers-append : (k l : List Command) (m : Machine) → answers prims map (k ++ l) m ≡ answers prims map k m ++ answers prims map l (after prims map k m)
   unfolding answers after
   answers-append [] l m = refl
-  answers-append (x ∷ k) l m = ap (λ (as : List Answer). answerTo prims map x m ∷ as) (answers-append k l (machineAfter prims map x m))
+  answers-append (x ∷ k) l m = ap (λ (k : List Answer). answerTo prims map x m ∷ k) (answers-append k l (machineAfter prims map x m))
 
   pub left-out : (m : Machine) (l₁ l₂ : List Command) (x : Command)
       → let m₁ = after prims map l₁ m in
@@ -63,11 +63,11 @@ module _ (prims : Primitives) (map : Map) where
       → (after prims map (l₁ ++ x ∷ l₂) m ≡ after prims map (l₁ ++ l₂) m)
       × (answers prims map (l₁ ++ x ∷ l₂) m ≡ answers prims map l₁ m ++ answerTo prims map x m₁ ∷ answers prims map l₂ m₁)
       × (answers prims map (l₁ ++ l₂) m ≡ answers prims map l₁ m ++ answers prims map l₂ m₁)
+  unfolding after answers
   left-out m l₁ l₂ x i =
       let m₁ = after prims map l₁ m in
       let same = idle-same prims map m₁ x i in (
-        after-append prims map l₁ (x ∷ l₂) m ∙ (unfold after in (ap (after prims map l₂) same)) ∙ sym (after-append prims map l₁ l₂ m),
-        answers-append l₁ (x ∷ l₂) m
-        ∙ (unfold answers in (ap (λ (k : Machine). answers prims map l₁ m ++ answerTo prims map x m₁ ∷ answers prims map l₂ k) same)),
+        after-append prims map l₁ (x ∷ l₂) m ∙ ap (after prims map l₂) same ∙ sym (after-append prims map l₁ l₂ m),
+        answers-append l₁ (x ∷ l₂) m ∙ ap (λ (k : Machine). answers prims map l₁ m ++ answerTo prims map x m₁ ∷ answers prims map l₂ k) same,
         answers-append l₁ l₂ m,
       )

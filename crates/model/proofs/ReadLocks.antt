@@ -14,7 +14,7 @@ use Rattle.basics.proofs.Choice.{true-not-false, by-cases, if-both, if-true, if
 use Rattle.partitions.specs.Map.{Map, rightsOf, numberAt, partition, partitionAt, limit, inDigest}
 use Rattle.partitions.specs.Fitness.{fit}
 use Rattle.partitions.proofs.KindRights.{lockable-direct}
-use Rattle.partitions.proofs.Map.{digest-below-ten}
+use Rattle.partitions.proofs.Map.{digest-below-ten, partition-at}
 use Rattle.life_cycle.specs.Constants.{validConstants}
 use Rattle.model.specs.declared.Session.{Session}
 use Rattle.model.specs.declared.Answer.{Answer}
@@ -22,7 +22,7 @@ use Rattle.model.specs.declared.Answer.the-variants.{Done, Denied, NotRe
 use Rattle.model.specs.declared.Command.{Command}
 use Rattle.model.specs.declared.Command.the-variants.{Read, Write, FrontRead, Digest, ReadLock, Transition, PowerUp}
 use Rattle.model.specs.Answers.{codeOf}
-use Rattle.model.specs.Session.{isReady, readLocked, sensedAt, sensedLocked}
+use Rattle.model.specs.Session.{isReady, readLocked, sensedAt, sensedLocked, withLocks}
 use Rattle.model.specs.Lent.{Lent, Machine, Primitives, rightLengths}
 use Rattle.model.specs.Acts.{Turn, stay, lock, halt, die, turned, Act, say, refuse, Performed, perform}
 use Rattle.model.specs.Commands.{writeAct, readAct, frontReadAct, digestAct, readLockAct, moveAct, lockedTokenAct, tokenAct, entryAct, transitionAct, commandAct, readyAct}

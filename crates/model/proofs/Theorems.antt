@@ -73,7 +73,7 @@ burns prims C map F = record {
   granules = granule-final prims map F;
   refused = refused-named prims map;
   locked = locked-denied prims map;
-  exactly = write-exact prims map;
+  exactly = λ m r ready a value. write-exact prims map m a value r ready;
   allowed = write-allowed prims C map F;
   lasting = reads-last prims C map F;
 }

@@ -3,25 +3,31 @@ use mathlib.Core.Path.{_≡_, refl, sym, ap, _∙_}
 use mathlib.Core.Bool.{Bool, true, false}
 use mathlib.Core.List.{List}
 use mathlib.Core.Logic.{_↔_, _⊎_, ⊎-elim}
-use Prim.Native.Nat.{ℕ, _+_, _*_, _^_, _≤_, _<_}
+use Prim.Native.Nat.{ℕ, suc, _+_, _*_, _^_, _≤_, _<_}
 use native.Mathlib.Omega.{arith}
 use lib.Dec.{eqb}
 use borrow.Author.Tests.{eqb-false}
+use Rattle.basics.specs.Choice.{if_then_else_}
 use Rattle.basics.proofs.Choice.{true-not-false, if-true, if-false}
+use Rattle.words.specs.declared.Programmed.the-variants as programmed
+use Rattle.words.specs.Programming.{programAnswer}
 use Rattle.words.proofs.Programming.{refused-not-done, program-elsewhere, answer-same}
 use Rattle.partitions.specs.Map.{Map, numberOfKind}
 use Rattle.life_cycle.specs.declared.Token.{Token}
 use Rattle.life_cycle.specs.declared.Token.the-variants.{Nothing, RawUnlock, TestUnlock, TestExit, Rma}
 use Rattle.life_cycle.specs.declared.Entry.{Entry}
 use Rattle.life_cycle.specs.declared.Entry.the-variants.{Allowed, Forbidden}
+use Rattle.life_cycle.specs.Words.{stateWords}
 use Rattle.life_cycle.specs.Transitions.{transition}
+use Rattle.life_cycle.proofs.Encoding.{counter-length}
 use Rattle.model.specs.declared.Answer.{Answer}
 use Rattle.model.specs.declared.Command.the-variants.{Transition}
 use Rattle.model.specs.Answers.{codeOf}
 use Rattle.model.specs.Session.{sensedLocked}
 use Rattle.model.specs.Lent.{Machine, Primitives, rawUnlockHash}
-use Rattle.model.specs.Commands.{tokenKind, hashesTo, storedToken}
+use Rattle.model.specs.Commands.{lifeCycleRule, tokenKind, hashesTo, storedToken, counterAt, stateAt}
 use Rattle.model.specs.Step.{answerTo}
+use Rattle.model.specs.Claims.Refusals.{early}
 use Rattle.model.specs.Claims.Transitions.{Stops, counterRefused, stateRefused, strokeWords, Compared, Asked, strokeOnly, isStored, Fair, Unlocked}
 use Rattle.model.proofs.TransitionEnds.{struck, move, Ending, unknownTarget, used, counterStops, notInTable, tokenNotLocked, tokenDiffers, stateStops, moved, Room, step-ends}
 

@@ -5,6 +5,7 @@ use mathlib.Core.Bool.{Bool, true, false, not, _&&_}
 use mathlib.Core.List.{List}
 use mathlib.Core.Logic.{_↔_, _⊎_, inl, inr, ⊎-elim}
 use Prim.Native.Nat.{ℕ, _≤_, _<_}
+use native.Mathlib.Omega.{arith}
 use lib.Dec.{eqb, leb}
 use borrow.Author.Tests.{eqb-true, eqb-false, eq-eqb, ne-eqb, leb-true, leb-false, le-leb, lt-leb, not-false, not-true}
 use Rattle.basics.proofs.Choice.{true-not-false, and-left, and-right, and-both, if-both, not-passed}
@@ -29,13 +30,13 @@ use Rattle.model.specs.Lent.{Machine, Primitives}
 use Rattle.model.specs.Acts.{Act, perform}
 use Rattle.model.specs.Commands.{directRule, storedDigest, writeAct, commandAct, readyAct}
 use Rattle.model.specs.Step.{act, performed, obey, step, after, machineAfter, answerTo}
-use Rattle.model.specs.Claims.Terms.{Right, Cipher, storedWords, Allowed}
+use Rattle.model.specs.Claims.Terms.{Right, Cipher, Digested, storedWords, Allowed}
 use Rattle.model.specs.Claims.Demand3.{Ready}
 use Rattle.model.specs.Claims.Burns.{WriteDenied, past, inLifeCycle, inHardwareDigest, locked}
 use Rattle.model.proofs.Acts.{after-both}
-use Rattle.model.proofs.Steps.{step-obeys, after-constants, step-constants}
+use Rattle.model.proofs.Steps.{step-obeys, after-right, after-constants, step-constants}
 use Rattle.model.proofs.Ready.{Fresh, first-fresh, after-fresh}
-use Rattle.model.proofs.Writes.{direct-known}
+use Rattle.model.proofs.Writes.{write-takes}
 
 module _ (prims : Primitives) (map : Map) (m : Machine) (a value : ℕ) where
   abbrev Takes : Programmed → Type 0
@@ -44,24 +45,25 @@ module _ (prims : Primitives) (map : Map) (m : Machine) (a value : ℕ) where
 
   -- ---- the ends of a write on a Ready chip
 
+  -- every guard passes
+  record Passed : Type 0 where
+    below : leb (limit map) a ≡ false
+    direct : rightsOf (partitionAt map a .kind) .direct ≡ true
+    soft : (rightsOf (partitionAt map a .kind) .hardware && inDigest (partitionAt map a) a) ≡ false
+    zero : sensedAt (m .session) (numberAt map a) ≡ 0
+
   data WriteEnd (answer : Answer) : Type 0 where
     denied : WriteDenied prims map m a → answer ≡ Denied → WriteEnd answer
-    stops : {i : ℕ} → (WriteDenied prims map m a → ⊥) → Takes (programmed.Refused i) → answer ≡ NotBlank i → WriteEnd answer
-    done : (WriteDenied prims map m a → ⊥) → Takes programmed.Done → answer ≡ Done 0 → WriteEnd answer
+    stops : {i : ℕ} → Passed → Takes (programmed.Refused i) → answer ≡ NotBlank i → WriteEnd answer
+    done : Passed → Takes programmed.Done → answer ≡ Done 0 → WriteEnd answer
 
-  -- where every guard passes, there is no reason for a 5
-  not-denied : leb (limit map) a ≡ false → rightsOf (partitionAt map a .kind) .direct ≡ true
-      → (rightsOf (partitionAt map a .kind) .hardware && inDigest (partitionAt map a) a) ≡ false → sensedLocked (m .session) (numberAt map a) ≡ false
-      → WriteDenied prims map m a → ⊥
-  unfolding rightsOf sensedLocked
-  not-denied l d h s (past q) = true-not-false (le-leb _ _ q) l
-  not-denied l d h s (inLifeCycle q) = true-not-false d (rw q refl)
-  not-denied l d h s (inHardwareDigest q r) = true-not-false (and-both _ _ q r) h
-  not-denied l d h s (locked q) = q (eqb-true _ 0 (not-true-is (eqb (sensedAt (m .session) (numberAt map a)) 0) s))
-    where
-      not-true-is : (b : Bool) → not b ≡ false → b ≡ true
-      not-true-is true e = refl
-      not-true-is false e = absurd (true-not-false refl e)
+  -- there is then no reason for a 5
+  not-denied : Passed → WriteDenied prims map m a → ⊥
+  unfolding rightsOf
+  not-denied p (past q) = true-not-false (le-leb _ _ q) (p .below)
+  not-denied p (inLifeCycle q) = true-not-false (p .direct) (rw q refl)
+  not-denied p (inHardwareDigest q r) = true-not-false (and-both _ _ q r) (p .soft)
+  not-denied p (locked q) = q (p .zero)
 
   abbrev Ends : Act → Type 0
   Ends x = WriteEnd (perform x (m .lent .copy) (m .lent .cells) .answer)
@@ -72,9 +74,10 @@ module _ (prims : Primitives) (map : Map) (m : Machine) (a value : ℕ) where
       if-both Ends (leb (limit map) a) _ _ (λ t. denied (past (leb-true _ _ t)) refl)
       λ l. if-both Ends (not (rightsOf (partitionAt map a .kind) .direct)) _ _ (λ t. denied (inLifeCycle (life-cycle-only _ (not-true _ t))) refl)
       λ d. if-both Ends (rightsOf (partitionAt map a .kind) .hardware && inDigest (partitionAt map a) a) _ _
-      (λ t. denied (inHardwareDigest (and-left _ _ t) (and-right _ _ t)) refl)
+      (λ t. denied (inHardwareDigest (and-left (rightsOf (partitionAt map a .kind) .hardware) _ t) (and-right (rightsOf (partitionAt map a .kind) .hardware) _ t)) refl)
       λ h. if-both Ends (sensedLocked (m .session) (numberAt map a)) _ _ (λ t. denied (locked (λ z. true-not-false t (ap not (eq-eqb _ 0 z)))) refl)
-      λ s. after-both (λ r. WriteEnd (r .answer)) _ _ _ (λ e. done (not-denied l (not-false _ d) h s) e refl) (λ i e. stops (not-denied l (not-false _ d) h s) e refl)
+      λ s. (let p : Passed = record { below = l; direct = not-false _ d; soft = h; zero = eqb-true _ 0 (not-false _ s) } in
+      after-both (λ r. WriteEnd (r .answer)) _ _ _ (λ e. done p e refl) (λ i e. stops p e refl))
 
   -- ---- each code
 
@@ -96,22 +99,53 @@ module _ (prims : Primitives) (map : Map) (m : Machine) (a value : ℕ) where
     (λ i. ((λ q. absurd (apart {x = Denied} {y = NotBlank i} refl e q)), λ q. absurd (q .0 d))),
     ((λ q. absurd (apart {x = Denied} {y = Done 0} refl e q)), λ q. absurd (q .0 d)),
   )
-  exact (stops {i = k} n t e) = (
-    ((λ q. absurd (apart {x = NotBlank k} {y = Denied} refl e q)), λ q. absurd (n q)),
-    (λ i. ((λ q. (n, refused-lowest _ _ _ _ i (t ∙ ap programmed.Refused (ap valueOf (sym e ∙ q))))), λ q. e ∙ ap NotBlank (same-word i (q .1)))),
+  exact (stops {i = k} p t e) = (
+    ((λ q. absurd (apart {x = NotBlank k} {y = Denied} refl e q)), λ q. absurd (not-denied p q)),
+    (λ i. ((λ q. (not-denied p, refused-lowest _ _ _ _ i (t ∙ ap programmed.Refused (ap valueOf (sym e ∙ q))))), λ q. e ∙ ap NotBlank (same-word i (q .1)))),
     ((λ q. absurd (apart {x = NotBlank k} {y = Done 0} refl e q)), λ q. absurd (refused-not-done (sym t ∙ q .1))),
   )
     where
       same-word : (i : ℕ) → Lowest (directRule (partitionAt map a) a) (m .lent .cells) (firstWord (partitionAt map a) a) (storedWords prims map (m .lent .constants) a value) i → k ≡ i
       same-word i q = let z : programmed.Refused k ≡ programmed.Refused i = sym t ∙ lowest-refused _ _ _ _ i q in cc
-  exact (done n t e) = (
-    ((λ q. absurd (apart {x = Done 0} {y = Denied} refl e q)), λ q. absurd (n q)),
+  exact (done p t e) = (
+    ((λ q. absurd (apart {x = Done 0} {y = Denied} refl e q)), λ q. absurd (not-denied p q)),
     (λ i. ((λ q. absurd (apart {x = Done 0} {y = NotBlank i} refl e q)), λ q. absurd (refused-not-done (sym (lowest-refused _ _ _ _ i (q .1)) ∙ t)))),
-    ((λ q. (n, t)), λ q. e),
+    ((λ q. (not-denied p, t)), λ q. e),
   )
 
-  pub write-exact : Right map m → m .session .phase ≡ phase.Ready → Exact (answerTo prims map (Write a value) m)
+  ready-ends : Right map m → isReady (m .session .phase) ≡ true → WriteEnd (answerTo prims map (Write a value) m)
   unfolding obey act performed readyAct commandAct
-  write-exact r ready =
+  ready-ends r awake =
       rw (step-obeys prims map (Write a value) m r, answerTo)
-      (exact (if-both Ends (not (isReady (m .session .phase))) _ _ (λ t. absurd (true-not-false (unfold isReady in (rw ready refl)) (not-true _ t))) (λ t. write-ends)))
+      (if-both Ends (not (isReady (m .session .phase))) _ _ (λ t. absurd (true-not-false awake (not-true _ t))) (λ t. write-ends))
+
+  pub write-exact : Right map m → m .session .phase ≡ phase.Ready → Exact (answerTo prims map (Write a value) m)
+  unfolding isReady
+  write-exact r ready = exact (ready-ends r (ap isReady ready))
+
+  -- ---- since a power-up
+
+  done-allowed : fit map ≡ true → (c₀ : List ℕ) → Fresh map c₀ m → {answer : Answer} → WriteEnd answer → codeOf answer ≡ 0x00
+      → Allowed prims map (m .lent .constants) c₀ (m .lent .cells) a value
+  unfolding partitionAt
+  done-allowed F c₀ f (denied d e) = rw e (λ z. absurd (omega arith))
+  done-allowed F c₀ f (stops p t e) = rw e (λ z. absurd (omega arith))
+  done-allowed F c₀ f (done p t e) = λ z. record {
+    below = leb-false _ _ (p .below); direct = p .direct; notDigest = p .soft; unlocked = sym (f .felt (numberAt map a) known) ∙ p .zero; takes = t;
+  }
+    where
+      known : Digested map (numberAt map a)
+      known = record { known = inside map F (leb-false _ _ (p .below)) .known; direct = p .direct }
+
+module _ (prims : Primitives) (C : Cipher prims) (map : Map) (F : fit map ≡ true) where
+  pub write-allowed : (m : Machine) → Right map m → (l₀ l₁ : List Command) → Ready prims map m l₀ l₁ → (a value : ℕ)
+      → let m₀ = after prims map l₀ m in
+      let m₁ = after prims map l₁ (machineAfter prims map PowerUp m₀) in
+      (codeOf (answerTo prims map (Write a value) m₁) ≡ 0x00) ↔ Allowed prims map (m .lent .constants) (m₀ .lent .cells) (m₁ .lent .cells) a value
+  write-allowed m r l₀ l₁ ready a value =
+      let m₀ = after prims map l₀ m in
+      let m₁ = after prims map l₁ (machineAfter prims map PowerUp m₀) in
+      let f = after-fresh prims map F (m₀ .lent .cells) l₁ (machineAfter prims map PowerUp m₀) (ready .lasts) (first-fresh prims map F m₀ (after-right prims map l₀ m r) (ready .woke)) in
+      let k : m₁ .lent .constants ≡ m .lent .constants = after-constants prims map l₁ _ ∙ step-constants prims map PowerUp m₀ ∙ after-constants prims map l₀ m in
+      ((λ z. rw k at (done-allowed prims map m₁ a value F (m₀ .lent .cells) f (ready-ends prims map m₁ a value (f .right) (f .awake)) z)),
+      λ al. ap codeOf (write-takes prims C map F (m₀ .lent .cells) m₁ f a value (rw k al) .done))
