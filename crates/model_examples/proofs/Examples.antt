@@ -27,34 +27,34 @@ use Rattle.model.specs.PowerUp.{lifeCycleIn}
 use Rattle.model.specs.Step.{after, answers, machineAfter, answerTo}
 use Rattle.model.specs.CaseTables.{number}
 use Rattle.model.specs.Cases.{blank, table, Hold, blankDigest}
-use Rattle.model.specs.Claims.Terms.{Right, Cipher, Digested, storedWords, Lasts, Spared, usedValue, Allowed, Matched, HiddenWord, Alike, Says}
-use Rattle.model.specs.Claims.Demand3.{Demand3, Ready}
+use Rattle.model.specs.Claims.Terms.{Right, Cipher, DigestFits, Digested, storedWords, Lasts, Spared, usedValue, Allowed, Matched, HiddenWord, Alike, Says}
+use Rattle.model.specs.Claims.Demand3.{Ready}
 use Rattle.model.specs.Session.{readLocked}
 use Rattle.model.specs.Claims.Transitions.{Asked, stays, moves}
 use Rattle.model.specs.Claims.Burns.{writing, digesting, Named}
 use Rattle.model.specs.Claims.Digests.{Puts, writes, Source, put}
+use Rattle.model.specs.Claims.All.{Claims}
 use Rattle.model.proofs.Everything.{everything}
 use Rattle.model.proofs.ToyChip.{toyWith, toy, off, ready, tested}
 use Rattle.model.proofs.Cases.{cases}
-use Rattle.model.proofs.Theorems.{refusals, demand3, beyond}
-use Rattle.model.proofs.Strokes.{rising}
+use Rattle.model.proofs.Theorems.{claims}
 
 pub toy-cipher : Cipher toy
 toy-cipher = record { fits = λ key block k b. xor-lt 64 block 1 b (lit< tt); back = λ key block k b. xor-xor block 1 }
 
-abbrev toy-demand3 : Demand3 toy map1
-toy-demand3 = demand3 toy toy-cipher map1 map1-fit
+pub toy-digest : DigestFits toy
+toy-digest = record { fits = λ start final words s f w. lit< tt }
 
-abbrev toy-beyond : Beyond toy map1
-toy-beyond = beyond toy toy-cipher map1 map1-fit
+abbrev pub toy-claims : Claims toy map1
+toy-claims = claims toy toy-cipher toy-digest map1 map1-fit
 
-constants-small : (i : ℕ) → getD (off blank .lent .constants) i 0 < 65536
+pub constants-small : (i : ℕ) → getD (off blank .lent .constants) i 0 < 65536
 unfolding everything
 constants-small i =
     by-cases (ltb i 132) (λ t. ltb-true _ _ (all-at 132 (λ j. ltb (getD (off blank .lent .constants) j 0) 65536) tt i (ltb-true _ _ t)))
     (λ t. rw (List·getD-eq-default (off blank .lent .constants) 0 {n = i} (ltb-false _ _ t)) (lit< tt))
 
-right : (cells : List ℕ) → eqb (length cells) 448 ≡ true → Right map1 (off cells)
+pub right : (cells : List ℕ) → eqb (length cells) 448 ≡ true → Right map1 (off cells)
 right cells e = record { lengths = unfold everything in (rw e); valid = unfold everything in refl; words = constants-small }
 
 -- ---- a write: 0x55 at 0x003 of a blank chip is allowed after a power-up, and reads back at 0x000
@@ -98,7 +98,7 @@ not-read-locked e = refl
 reads-meanwhile : answerTo toy map1 (Read 0x001) (after toy map1 staying wrote) ≡ Done (usedValue map1 0x003 0x55)
 unfolding wrote after
 reads-meanwhile =
-    toy-demand3 .writes (off blank) (right blank refl) [] [] woken 0x003 0x55 (lit< tt) allowed .1 staying still-ready spared 0x001 (unfold everything in (lit< tt)) one-granule
+    toy-claims .demand3 .writes (off blank) (right blank refl) [] [] woken 0x003 0x55 (lit< tt) allowed .1 staying still-ready spared 0x001 (unfold everything in (lit< tt)) one-granule
     not-read-locked
 
 -- secret data is scrambled and reads back while it is open
@@ -125,7 +125,7 @@ reads-on = refl
 
 stored-on : 0x55 ≡ usedValue map1 0x003 0x55
 unfolding wrote after
-stored-on = toy-beyond .lasting (off blank) (right blank refl) [] [] woken 0x003 0x55 (lit< tt) allowed passing (λ z. absurd (not-zero z)) (λ e. absurd (not-old e)) 0x001 0x55 one-granule reads-on
+stored-on = toy-claims .burns .lasting (off blank) (right blank refl) [] [] woken 0x003 0x55 (lit< tt) allowed passing (λ z. absurd (not-zero z)) (λ e. absurd (not-old e)) 0x001 0x55 one-granule reads-on
 
 -- a write of zero leaves its granule blank: it reads 0 as long as no other write to the granule answers 0
 allowed-zero : Allowed toy map1 (off blank .lent .constants) blank (machineAfter toy map1 PowerUp (off blank) .lent .cells) 0x003 0
@@ -148,18 +148,18 @@ zero-read = refl
 
 zero-on : 0 ≡ usedValue map1 0x003 0
 unfolding wrote-zero after
-zero-on = toy-beyond .lasting (off blank) (right blank refl) [] [] woken 0x003 0 (lit< tt) allowed-zero sparing (λ z. passed) (λ e. passed) 0x001 0 one-granule zero-read
+zero-on = toy-claims .burns .lasting (off blank) (right blank refl) [] [] woken 0x003 0 (lit< tt) allowed-zero sparing (λ z. passed) (λ e. passed) 0x001 0 one-granule zero-read
 
 -- ---- nothing is burnt twice: the write of 0x55 at 0x003 found words 0 and 1 blank, and whatever else is written there, 0x55 stands
 
 found-word : getD (after toy map1 (PowerUp ∷ []) (off blank) .lent .cells) 1 0 ≡ 0
 found-word =
-    toy-beyond .taken (off blank) (PowerUp ∷ []) (Write 0x003 0x55) 0 (0x55 ∷ 0 ∷ []) (unfold everything in (writing refl)) (unfold everything in refl) 1 (omega arith) (lit< tt)
+    toy-claims .burns .taken (off blank) (PowerUp ∷ []) (Write 0x003 0x55) 0 (0x55 ∷ 0 ∷ []) (unfold everything in (writing refl)) (unfold everything in refl) 1 (omega arith) (lit< tt)
 
 -- a digest command found the four words of HW_CFG's digest blank
 found-digest : getD (after toy map1 (PowerUp ∷ []) (off blank) .lent .cells) 295 0 ≡ 0
 found-digest =
-    toy-beyond .taken (off blank) (PowerUp ∷ []) (Digest 0x200) 292 (1 ∷ 0 ∷ 0 ∷ 0 ∷ []) (unfold everything in digesting) (unfold everything in refl) 295 (omega arith) (lit< tt)
+    toy-claims .burns .taken (off blank) (PowerUp ∷ []) (Digest 0x200) 292 (1 ∷ 0 ∷ 0 ∷ 0 ∷ []) (unfold everything in digesting) (unfold everything in refl) 295 (omega arith) (lit< tt)
 
 burnt-word : getD (wrote .lent .cells) 0 0 ≡ 0x55
 unfolding everything wrote
@@ -167,7 +167,7 @@ burnt-word = refl
 
 word-left : getD (machineAfter toy map1 (Write 0x003 0xFF) wrote .lent .cells) 0 0 ≡ getD (wrote .lent .cells) 0 0
 unfolding after
-word-left = toy-beyond .burns wrote [] (Write 0x003 0xFF) 0 (0xFF ∷ 0 ∷ []) (unfold everything in (writing refl)) 0 (λ z. omega (arith, burnt-word))
+word-left = toy-claims .burns .burns wrote [] (Write 0x003 0xFF) 0 (0xFF ∷ 0 ∷ []) (unfold everything in (writing refl)) 0 (λ z. omega (arith, burnt-word))
 
 granule-held : granule (partitionAt map1 0x001) (wrote .lent .cells) 0x001 ≡ 0x55
 unfolding everything wrote
@@ -178,25 +178,25 @@ granule-left : let p = partitionAt map1 0x001 in
     ≡ partAt (wrote .lent .cells) (firstWord p 0x001) (wordCount p 0x001)
 unfolding after
 granule-left =
-    toy-beyond .granules wrote 0x001 (unfold everything in (lit< tt)) (unfold everything in refl) (unfold everything in refl) [] (passing ++ staying) (λ z. omega (arith, granule-held))
+    toy-claims .burns .granules wrote 0x001 (unfold everything in (lit< tt)) (unfold everything in refl) (unfold everything in refl) [] (passing ++ staying) (λ z. omega (arith, granule-held))
 
 -- ---- which word: the second of a granule that a write meets, the lowest of a digest given again, a counter word and a state word
 
 write-named : Named toy map1 (after toy map1 (PowerUp ∷ []) (off (set blank 1 7))) (Write 0x000 0x55) 1
 unfolding everything
-write-named = toy-beyond .refused (off (set blank 1 7)) (PowerUp ∷ []) (Write 0x000 0x55) refl
+write-named = toy-claims .burns .refused (off (set blank 1 7)) (PowerUp ∷ []) (Write 0x000 0x55) refl
 
 digest-named : Named toy map1 (after toy map1 (PowerUp ∷ Digest 0x200 ∷ []) (off blank)) (Digest 0x200) 292
 unfolding everything
-digest-named = toy-beyond .refused (off blank) (PowerUp ∷ Digest 0x200 ∷ []) (Digest 0x200) refl
+digest-named = toy-claims .burns .refused (off blank) (PowerUp ∷ Digest 0x200 ∷ []) (Digest 0x200) refl
 
 stroke-named : Named toy map1 (ready 0 (set blank 404 4)) (Transition 1 0 7) 404
 unfolding everything
-stroke-named = toy-beyond .refused (ready 0 (set blank 404 4)) [] (Transition 1 0 7) refl
+stroke-named = toy-claims .burns .refused (ready 0 (set blank 404 4)) [] (Transition 1 0 7) refl
 
 state-named : Named toy map1 (ready 0 (set blank 430 4)) (Transition 1 0 7) 430
 unfolding everything
-state-named = toy-beyond .refused (ready 0 (set blank 430 4)) [] (Transition 1 0 7) refl
+state-named = toy-claims .burns .refused (ready 0 (set blank 430 4)) [] (Transition 1 0 7) refl
 
 -- ---- a lock: with a digest of 1 written to CREATOR_SW_CFG, the next power-up finds it locked
 
@@ -218,7 +218,7 @@ refused-since = refl
 -- with value 0, as the theorem says
 says-locked : Says 0x05 0 (answerTo toy map1 (Write 0x000 0xFF) (after toy map1 (locking ++ PowerUp ∷ []) (off blank)))
 says-locked =
-    toy-beyond .locked (off blank) (right blank refl) (locking ++ PowerUp ∷ []) 0x000 0xFF (unfold everything locking in refl) (unfold everything locking in refl) .0
+    toy-claims .burns .locked (off blank) (right blank refl) (locking ++ PowerUp ∷ []) 0x000 0xFF (unfold everything locking in refl) (unfold everything locking in refl) .0
 
 -- ---- a digest in one piece: the other half of CREATOR_SW_CFG's is refused, so that after the next power-up it still is what one write put there
 
@@ -288,7 +288,7 @@ both-answer = refl
 
 chips-agree : answers toy map1 (PowerUp ∷ trying) (off one) ≡ answers toy map1 (PowerUp ∷ trying) (off other)
 chips-agree =
-    toy-demand3 .chips (off one) (off other) (right one (unfold one in refl)) (right other (unfold one other in refl)) refl alike trying matched .0
+    toy-claims .demand3 .chips (off one) (off other) (right one (unfold one in refl)) (right other (unfold one other in refl)) refl alike trying matched .0
 
 -- ---- two chips and a hidden token: TEST_EXIT differs, and a transition compares TEST_UNLOCK on both
 
@@ -303,11 +303,11 @@ token-matched = (tt, (refl, tt), ((refl, tt), tt, tt))
 
 token-right : Asked toy map1 (after toy map1 (PowerUp ∷ []) (off tested)) 3 0x71 true
 unfolding everything tested
-token-right = toy-beyond .tokens (off tested) (PowerUp ∷ []) 3 0 0x71 .0 refl
+token-right = toy-claims .transitions .tokens (after toy map1 (PowerUp ∷ []) (off tested)) 3 0 0x71 .0 refl
 
 token-wrong : Asked toy map1 (after toy map1 (PowerUp ∷ []) (off tested)) 3 0x70 false
 unfolding everything tested
-token-wrong = toy-beyond .tokens (off tested) (PowerUp ∷ []) 3 0 0x70 .1 refl .0
+token-wrong = toy-claims .transitions .tokens (after toy map1 (PowerUp ∷ []) (off tested)) 3 0 0x70 .1 refl
 
 third-stroke : after toy map1 (PowerUp ∷ Transition 3 0 0x70 ∷ []) (off tested) .lent .cells ≡ set tested 406 3
 unfolding everything tested
@@ -331,7 +331,7 @@ course-taken = refl
 -- the count of a course rises
 count-risen : 0 ≤ 1
 unfolding everything
-count-risen = rising .counts 0 0 1 1 (moves stays refl)
+count-risen = toy-claims .transitions .counts 0 0 1 1 (moves stays refl)
 
 -- ---- a quiet list leaves the copy: a write and a digest command show only after a power-up
 
@@ -340,9 +340,9 @@ quietly = Write 0x200 0x99 ∷ Digest 0x200 ∷ ReadLock 0 ∷ []
 
 copy-left : after toy map1 quietly wrote .lent .copy ≡ wrote .lent .copy
 unfolding quietly
-copy-left = toy-beyond .sensing wrote quietly (tt, (tt, (tt, tt))) .0
+copy-left = toy-claims .sensing .unsensed wrote quietly (tt, (tt, (tt, tt))) .0
 
 -- ---- a refusal: a denied write leaves the machine
 
 refused-whole : machineAfter toy map1 (Write 0x248 1) wrote ≡ wrote
-refused-whole = refusals toy map1 .commands wrote (Write 0x248 1) tt (unfold everything wrote in (λ e. omega arith))
+refused-whole = toy-claims .refusals .commands wrote (Write 0x248 1) tt (unfold everything wrote in (λ e. omega arith))

@@ -25,13 +25,13 @@ use Rattle.model.specs.Commands.{directRule, granule}
 use Rattle.model.specs.Step.{step, after, answers, machineAfter, answerTo}
 use Rattle.model.specs.CaseTables.{arrayWith, offChip}
 use Rattle.model.specs.Claims.Terms.{Right, Lasts, Spared, usedValue, Allowed, TakesEffect}
-use Rattle.model.specs.Demand3 as demand
-use Rattle.model.specs.Claims.OldRule.{InAuthState, twoWords, Gains, OldRule}
+use Rattle.model.specs.Claims.Demand3 as demand
+use Rattle.model.specs.Claims.OldRule.{InAuthState, twoWords, Gains}
+use Rattle.model.specs.Claims.All.{Claims}
 use Rattle.model.proofs.Everything.{everything}
 use Rattle.model.proofs.ToyChip.{toy}
-use Rattle.model.proofs.Theorems.{beyond}
-use Rattle.model.proofs.OldRule.{old-rule}
-use Rattle.model_examples.proofs.Examples.{toy-cipher}
+use Rattle.model.proofs.Theorems.{claims}
+use Rattle.model_examples.proofs.Examples.{toy-cipher, toy-digest}
 
 -- the chip with these cells, switched off
 abbrev off-map2 : List ℕ → Machine
@@ -40,11 +40,8 @@ off-map2 cells = offChip toy (λ i. 0) 740 cells
 abbrev blank-chip : Machine
 blank-chip = off-map2 (replicate 740 0)
 
-abbrev toy-old-rule : OldRule toy map2
-toy-old-rule = old-rule toy toy-cipher map2 map2-fit
-
-abbrev toy-beyond : Beyond toy map2
-toy-beyond = beyond toy toy-cipher map2 map2-fit
+abbrev toy-claims : Claims toy map2
+toy-claims = claims toy toy-cipher toy-digest map2 map2-fit
 
 right : Right map2 blank-chip
 unfolding everything map2
@@ -64,12 +61,12 @@ there = record { below = lit< tt; isAuthState = refl; isData = lit< tt }
 
 old : directRule (partitionAt map2 0x437) 0x437 ≡ KeepBits
 unfolding everything map2
-old = toy-old-rule .there (partitionAt map2 0x437) 0x437 refl (lit< tt)
+old = toy-claims .oldRule .there (partitionAt map2 0x437) 0x437 refl (lit< tt)
 
 -- a write to the granule, and what it makes of the two words
 gained : Gains 0x41B (0 ∷ 0 ∷ []) (Write 0x418 0x0F) (Done 0) (0x0F ∷ 0 ∷ [])
 unfolding everything map2
-gained = toy-old-rule .granules blank-chip (PowerUp ∷ []) (Write 0x418 0x0F) 0x41B there
+gained = toy-claims .oldRule .granules blank-chip (PowerUp ∷ []) (Write 0x418 0x0F) 0x41B there
 
 first : List Command
 first = Write 0x418 0x0F ∷ []
@@ -90,7 +87,7 @@ loses-none (suc (suc i)) l = absurd (omega arith)
 
 added : TakesEffect toy map2 wrote 0x41B 0x1F (step toy map2 (Write 0x41B 0x1F) wrote)
 unfolding first after
-added = toy-old-rule .taken blank-chip right [] first ready 0x41B 0x1F there (unfold everything map2 in refl) loses-none
+added = toy-claims .oldRule .taken blank-chip right [] first ready 0x41B 0x1F there (unfold everything map2 in refl) loses-none
 
 -- 0xF0 clears bits of it
 lowest : Lowest KeepBits (wrote .lent .cells) 0x20C (wordsOf 2 0xF0) 0x20C
@@ -99,7 +96,7 @@ lowest = record { from = omega arith; to = omega arith; refusing = refl; lower =
 
 cleared : answerTo toy map2 (Write 0x41B 0xF0) wrote ≡ NotBlank 0x20C
 unfolding first after
-cleared = toy-old-rule .refused blank-chip right [] first ready 0x41B 0xF0 there (unfold everything map2 in refl) 0x20C lowest .0
+cleared = toy-claims .oldRule .refused blank-chip right [] first ready 0x41B 0xF0 there (unfold everything map2 in refl) 0x20C lowest .0
 
 -- what was stored is what is read, while no other write there answers 0: one that clears a bit, and a power-up
 allowed : Allowed toy map2 (blank-chip .lent .constants) (replicate 740 0) (machineAfter toy map2 PowerUp blank-chip .lent .cells) 0x418 0x0F
@@ -124,7 +121,7 @@ reads-on = refl
 stored-on : 0x0F ≡ usedValue map2 0x418 0x0F
 unfolding after
 stored-on =
-    toy-beyond .lasting blank-chip right [] [] woken 0x418 0x0F (lit< tt) allowed sparing (λ z. spared) (λ e. spared) 0x41A 0x0F (unfold everything map2 in refl) reads-on
+    toy-claims .burns .lasting blank-chip right [] [] woken 0x418 0x0F (lit< tt) allowed sparing (λ z. spared) (λ e. spared) 0x41A 0x0F (unfold everything map2 in refl) reads-on
 
 -- ---- the digest behind it: the new rule, so that it never changes
 
@@ -140,7 +137,7 @@ digest-stays : let p = partitionAt map2 0x43C in
     ≡ partAt (digested .lent .cells) (firstWord p 0x43C) (wordCount p 0x43C)
 unfolding after
 digest-stays =
-    toy-beyond .granules blank-chip 0x43C (unfold everything map2 in (lit< tt)) (unfold everything map2 in refl) (unfold everything map2 in refl)
+    toy-claims .burns .granules blank-chip 0x43C (unfold everything map2 in (lit< tt)) (unfold everything map2 in refl) (unfold everything map2 in refl)
     (PowerUp ∷ Write 0x438 1 ∷ []) (Write 0x438 3 ∷ PowerUp ∷ []) (λ z. omega (arith, held))
 
 -- ---- a token of a locked partition: TEST_LOCKED0 goes to TEST_UNLOCKED1. SECRET0 starts at word 0x24C; TEST_UNLOCK is 0x71, whose hash 0x70 is stored with
@@ -210,4 +207,4 @@ unfolding everything map2
 locks-that-count = refl
 
 lock-of-none : answerTo toy map2 (Read 0x440) (with-locks true) ≡ answerTo toy map2 (Read 0x440) (with-locks false)
-lock-of-none = toy-beyond .lockless (with-locks false) 0x440 (unfold everything map2 in refl) (replicate 10 true)
+lock-of-none = toy-claims .readLocks .lockless (with-locks false) 0x440 (unfold everything map2 in refl) (replicate 10 true)

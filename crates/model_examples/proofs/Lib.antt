@@ -3,3 +3,4 @@ pub mod CasesOfMap2
 pub mod Examples
 pub mod ExamplesOfMap2
 pub mod ExamplesOfSensing
+pub mod ExamplesOfClaims
