@@ -10,13 +10,13 @@ use Rattle.basics.specs.Choice.{if_then_else_}
 use Rattle.basics.proofs.Choice.{if-both}
 use Rattle.words.specs.declared.Rule.{Rule}
 use Rattle.words.specs.declared.Programmed.{Programmed}
-use Rattle.words.specs.declared.Programmed.the-variants as programmed
 use Rattle.words.specs.Programming.{programAnswer, programCells, Kept}
 use Rattle.words.proofs.Programming.{kept-refl, kept-trans, program-kept, program-length, program-elsewhere}
 use Rattle.model.specs.declared.Answer.{Answer}
 use Rattle.model.specs.declared.Answer.the-variants.{Done, NotBlank}
 use Rattle.model.specs.Answers.{codeOf}
 use Rattle.model.specs.Acts.{Turn, stay, Act, say, program, compare, refuse, Performed, afterProgram, noting, perform}
+use Rattle.words.specs.declared.Programmed.the-variants as programmed
 
 -- what holds of a programming that is done and of one that is refused
 pub after-both {ℓ} : (Q : Performed → Type ℓ) (r : Programmed) (next : Performed) (refused : ℕ → Performed)

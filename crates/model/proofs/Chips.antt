@@ -12,13 +12,11 @@ use Rattle.basics.specs.Range.{listed}
 use Rattle.basics.proofs.Choice.{by-cases, true-not-false, not-passed, if-true, if-false, if-same}
 use Rattle.basics.proofs.Range.{length-listed, listed-at, is-listed}
 use Rattle.words.specs.declared.Programmed.{Programmed}
-use Rattle.words.specs.declared.Programmed.the-variants as programmed
 use Rattle.words.specs.Words.{numberOf}
 use Rattle.words.specs.Programming.{programAnswer, programCells}
 use Rattle.words.proofs.Parts.{part-same}
 use Rattle.words.proofs.Programming.{answer-same, program-length}
 use Rattle.words.proofs.Alike.{Same, program-alike}
-use Rattle.partitions.specs.declared.Kind.the-variants as kind
 use Rattle.partitions.specs.Fitness.{fit}
 use Rattle.partitions.proofs.KindRights.{scrambled-direct, front-hardware, front-not-scrambled, lockable-not-hardware}
 use Rattle.partitions.proofs.Map.{inside, partition-fit, partition-word, direct-known}
@@ -40,6 +38,8 @@ use Rattle.model.proofs.Acts.{Within, says, programs, compares, within-
 use Rattle.model.proofs.Frame.{Open, unlocked, lifeCycle, not-locked, life-words, life-closed, life-same, act-within}
 use Rattle.model.proofs.Steps.{obey-both, step-obeys, step-up, cells-length, up-right, act-right}
 use Rattle.model.proofs.Locks.{Locked, up-locked, act-locked}
+use Rattle.words.specs.declared.Programmed.the-variants as programmed
+use Rattle.partitions.specs.declared.Kind.the-variants as kind
 
 -- ---- one act on two chips
 

@@ -1,48 +1,43 @@
 -- A partition passes the check of its digest until its data are written. The idea: whatever leaves its words leaves the check's result; a digest command puts
 -- the digest of the words as they are; and no write reaches a hardware digest.
 use mathlib.Core.Path.{_≡_, refl, sym, ap, ap₂, _∙_}
-use mathlib.Core.Bool.{Bool, true, false, not, _&&_, _||_}
+use mathlib.Core.Bool.{Bool, true, false, not, _||_}
 use mathlib.Core.List.{List, [], _∷_}
-use mathlib.Core.Logic.{_↔_, _⊎_, inl, inr, ⊎-elim}
-use mathlib.Core.Option.{Option, none, some}
-use Prim.Native.Nat.{ℕ, zero, suc, _+_, _*_, _-_, _/_, _%_, _^_, _≤_, _<_}
+use mathlib.Core.Logic.{_↔_}
+use Prim.Native.Nat.{ℕ, _+_, _*_, _-_, _/_, _^_, _≤_, _<_}
 use native.Mathlib.Nat.{mod-eq-of-lt}
 use native.Mathlib.Omega.{arith}
-use lib.Dec.{eqb, leb, ltb}
+use lib.Dec.{eqb}
 use lib.ListN.{length, getD}
-use borrow.Author.Tests.{eqb-true, eqb-false, eq-eqb, leb-true, leb-false, lt-leb, not-false, not-true}
-use Rattle.basics.specs.Choice.{if_then_else_}
-use Rattle.basics.proofs.Choice.{true-not-false, not-passed, by-cases, if-both, if-true, if-false, and-both, or-none-left, or-none-right}
+use borrow.Author.Tests.{eqb-true, eqb-false, eq-eqb, leb-false, lt-leb, not-false}
+use Rattle.basics.proofs.Choice.{true-not-false, not-passed, by-cases, if-both, if-false, and-both}
 use Rattle.words.specs.declared.Rule.{Rule}
-use Rattle.words.specs.declared.Programmed.the-variants as programmed
-use Rattle.words.specs.Words.{numberOf, wordsOf, partAt}
+use Rattle.words.specs.Words.{numberOf, wordsOf}
 use Rattle.words.specs.Programming.{programAnswer, programCells}
-use Rattle.words.proofs.Words.{Words, length-words, number-block}
+use Rattle.words.proofs.Words.{length-words, number-block}
 use Rattle.words.proofs.Parts.{part-same, part-words, part-number-lt, blank-part}
 use Rattle.words.proofs.Programming.{program-elsewhere, done-blank}
 use Rattle.partitions.specs.declared.Partition.{Partition}
-use Rattle.partitions.specs.Map.{Map, rightsOf, numberAt, partition, partitionAt, limit, inDigest, firstWord, wordCount, nowhere}
+use Rattle.partitions.specs.Map.{Map, rightsOf, numberAt, partition, partitionAt, inDigest}
 use Rattle.partitions.specs.Fitness.{fit}
 use Rattle.partitions.proofs.KindRights.{hardware-direct}
 use Rattle.partitions.proofs.Map.{inside, only, partition-at, partition-fit, end-within}
-use Rattle.partitions.proofs.Granules.{word-inside, word-number, digest-word}
-use Rattle.model.specs.declared.Answer.{Answer}
+use Rattle.partitions.proofs.Granules.{word-number}
 use Rattle.model.specs.declared.Answer.the-variants.{Done}
 use Rattle.model.specs.declared.Command.{Command}
-use Rattle.model.specs.declared.Command.the-variants.{Read, Write, FrontRead, Digest, ReadLock, Transition, PowerUp}
+use Rattle.model.specs.declared.Command.the-variants.{Write, Digest}
 use Rattle.model.specs.Answers.{codeOf}
-use Rattle.model.specs.Session.{isReady, sensedLocked}
 use Rattle.model.specs.Lent.{Machine, Primitives, digestStart, digestFinal}
-use Rattle.model.specs.Acts.{Act, stay, say, program, afterProgram, perform}
+use Rattle.model.specs.Acts.{Act, stay, say, program, perform}
 use Rattle.model.specs.Commands.{digestRule, storedDigest, dataWords, computedDigest, digestAct, commandAct, readyAct}
-use Rattle.model.specs.PowerUp.{digestHolds, firstFailing}
-use Rattle.model.specs.Step.{Step, unchanged, performed, act, powerUp, obey, step, after, machineAfter, answerTo}
+use Rattle.model.specs.PowerUp.{digestHolds}
+use Rattle.model.specs.Step.{Step, unchanged, performed, act, powerUp, obey, after, machineAfter, answerTo}
 use Rattle.model.specs.Claims.Terms.{Right, Digested, SamePartition, Put, DigestFits, CellsFit}
 use Rattle.model.specs.Claims.Digests.{sparesData, SparedData, digestNow, Digestible}
 use Rattle.model.proofs.Acts.{Burnt, left, burnt, perform-once, after-both, after-done}
 use Rattle.model.proofs.Frame.{Aim, by-aim, aimless-word}
-use Rattle.model.proofs.Steps.{outcome, step-both, step-all, step-obeys, step-right, step-constants, after-constants, lengths-of, cells-length}
-use Rattle.model.proofs.Locks.{same-refl, stored-same}
+use Rattle.model.proofs.Steps.{outcome, step-both, step-all, step-obeys, step-right, step-constants, cells-length}
+use Rattle.model.proofs.Locks.{stored-same}
 use Rattle.model.proofs.Digests.{digest-taken, computed-word}
 use Rattle.model.proofs.Targets.{Written, Computed, write-once, digest-once}
 use Rattle.model.proofs.TransitionCells.{put-words}

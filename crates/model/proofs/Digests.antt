@@ -10,7 +10,6 @@ use lib.ListN.{length, getD}
 use borrow.Author.Tests.{eqb-true, eqb-false, eq-eqb}
 use Rattle.basics.proofs.Choice.{by-cases, true-not-false, not-passed, and-left, and-right, and-both, if-false}
 use Rattle.words.specs.declared.Rule.{Rule}
-use Rattle.words.specs.declared.Programmed.the-variants as programmed
 use Rattle.words.specs.Words.{numberOf, wordsOf}
 use Rattle.words.specs.Programming.{programAnswer, programCells}
 use Rattle.words.proofs.Words.{length-words, number-words}
@@ -34,6 +33,7 @@ use Rattle.model.proofs.Acts.{Burnt, left, burnt, perform-once}
 use Rattle.model.proofs.Frame.{Aim, by-aim, aimless-word}
 use Rattle.model.proofs.Steps.{outcome, step-all, cells-length, step-right}
 use Rattle.model.proofs.Targets.{Written, Computed, write-once, digest-once}
+use Rattle.words.specs.declared.Programmed.the-variants as programmed
 
 module _ (prims : Primitives) (map : Map) (F : fit map ≡ true) (n : ℕ) (D : Digested map n) where
   abbrev p : Partition

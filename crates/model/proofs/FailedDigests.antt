@@ -5,16 +5,14 @@ use mathlib.Core.Bool.{Bool, true, false, not, _&&_, _||_}
 use mathlib.Core.List.{List, [], _∷_, _++_}
 use mathlib.Core.Logic.{_⊎_, inl, inr, ⊎-elim}
 use mathlib.Core.Option.{Option, none, some}
-use Prim.Native.Nat.{ℕ, zero, suc, _+_, _*_, _/_, _^_, _≤_, _<_}
+use Prim.Native.Nat.{ℕ, zero, suc, _+_, _<_}
 use native.Mathlib.Omega.{arith}
 use lib.Dec.{eqb}
 use lib.ListN.{length, getD}
-use borrow.Author.Tests.{eqb-true, eqb-false, ne-eqb, leb-false, not-false}
-use Rattle.basics.proofs.Choice.{true-not-false, not-passed, by-cases, if-both, if-true, if-false, and-both, or-none-left}
-use Rattle.words.specs.Words.{wordsOf}
-use Rattle.words.specs.Programming.{programAnswer}
+use borrow.Author.Tests.{eqb-true, eqb-false, not-false}
+use Rattle.basics.proofs.Choice.{true-not-false, by-cases, if-both, if-true, if-false, and-both, or-none-left}
 use Rattle.partitions.specs.declared.Partition.{Partition}
-use Rattle.partitions.specs.Map.{Map, rightsOf, numberAt, partition, partitionAt, limit, inDigest, nowhere}
+use Rattle.partitions.specs.Map.{Map, rightsOf, numberAt, partition, partitionAt, inDigest, nowhere}
 use Rattle.partitions.specs.Fitness.{fit}
 use Rattle.partitions.proofs.KindRights.{hardware-direct}
 use Rattle.partitions.proofs.Map.{partition-at}
@@ -25,26 +23,22 @@ use Rattle.model.specs.declared.Answer.the-variants.{Done, DigestFailed}
 use Rattle.model.specs.declared.Command.{Command}
 use Rattle.model.specs.declared.Command.the-variants.{Read, Write, FrontRead, Digest, ReadLock, Transition, PowerUp}
 use Rattle.model.specs.Answers.{codeOf, valueOf}
-use Rattle.model.specs.Session.{isReady, sensedAt, sensedLocked}
+use Rattle.model.specs.Session.{isReady, sensedAt}
 use Rattle.model.specs.Lent.{Machine, Primitives}
-use Rattle.model.specs.Acts.{Act, Performed, perform}
-use Rattle.model.specs.Commands.{storedDigest, computedDigest, writeAct, commandAct, readyAct}
+use Rattle.model.specs.Acts.{Act, perform}
+use Rattle.model.specs.Commands.{storedDigest, writeAct, commandAct, readyAct}
 use Rattle.model.specs.PowerUp.{Waking, digestHolds, firstFailing, verdictOf, lifeCycleIn, lifeCycleWaking, wakingOf, waking, wokenAnswer}
 use Rattle.model.specs.Step.{Step, unchanged, performed, act, powerUp, obey, after, machineAfter, answerTo}
-use Rattle.model.specs.Claims.Terms.{Right, Digested, SamePartition, notPowerUp, NoPowerUp, DigestFits, CellsFit}
-use Rattle.model.specs.Claims.Digests.{Puts, writes, computes, sparesData}
-use Rattle.model.specs.Claims.Sensing.{Since}
+use Rattle.model.specs.Claims.Terms.{Right, Digested, notPowerUp, NoPowerUp, DigestFits, CellsFit}
+use Rattle.model.specs.Claims.Digests.{writes, computes, sparesData}
 use Rattle.model.specs.Claims.FailedPowerUps.{WrittenAfterDigest}
-use Rattle.model.proofs.Acts.{after-both}
 use Rattle.model.proofs.Frame.{not-locked}
-use Rattle.model.proofs.Steps.{step-both, step-up, step-right, step-constants, after-right, acted, obeys-act}
+use Rattle.model.proofs.Steps.{step-both, step-up, step-right, step-constants, after-right, obeys-act}
 use Rattle.model.proofs.Locks.{sensed-stored, turned-sensed, turned-ready}
-use Rattle.model.proofs.Ready.{first-fresh}
 use Rattle.model.proofs.Digests.{Change, kept, puts, step-changes}
 use Rattle.model.proofs.Refusals.{power-ups-refuse}
 use Rattle.model.proofs.NotReady.{no-power-up}
-use Rattle.model.proofs.Since.{up-held}
-use Rattle.model.proofs.Unified.{since-sensed}
+use Rattle.model.proofs.Since.{first-since, up-held}
 use Rattle.model.proofs.WordSizes.{step-small}
 use Rattle.model.proofs.DigestChecks.{zero-holds, step-holds}
 
@@ -244,27 +238,47 @@ module _ (prims : Primitives) (map : Map) (F : fit map ≡ true) (n : ℕ) (D : 
 
   found-later : (x : Command) (m : Machine) (l : List Command) → notPowerUp x → Found (machineAfter prims map x m) l → Found m (x ∷ l)
   found-later x m l u f = record {
-    between = x ∷ f .between; behind = f .behind; address = f .address; value = f .value;
+    between = x ∷ f .between;
+    behind = f .behind;
+    address = f .address;
+    value = f .value;
     split = ap (λ (k : List Command). x ∷ k) (f .split);
     noPowerUp = (u, f .noPowerUp);
-    part = f .part; isData = f .isData;
+    part = f .part;
+    isData = f .isData;
     written = unfold after in (f .written);
   }
 
   spoilt-later : (x : Command) (m : Machine) (l : List Command) → WrittenAfterDigest prims map (machineAfter prims map x m) l n → WrittenAfterDigest prims map m (x ∷ l) n
   spoilt-later x m l f = record {
-    before = x ∷ f .before; between = f .between; behind = f .behind; at = f .at; address = f .address; value = f .value;
+    before = x ∷ f .before;
+    between = f .between;
+    behind = f .behind;
+    at = f .at;
+    address = f .address;
+    value = f .value;
     split = ap (λ (k : List Command). x ∷ k) (f .split);
-    noPowerUp = f .noPowerUp; digestPart = f .digestPart; writtenPart = f .writtenPart; writtenData = f .writtenData;
+    noPowerUp = f .noPowerUp;
+    digestPart = f .digestPart;
+    writtenPart = f .writtenPart;
+    writtenData = f .writtenData;
     digested = unfold after in (f .digested);
     written = unfold after in (f .written);
   }
 
   spoilt-here : (a : ℕ) (m : Machine) (l : List Command) → a ≡ p .start → codeOf (answerTo prims map (Digest a) m) ≡ 0x00 → Found (machineAfter prims map (Digest a) m) l → WrittenAfterDigest prims map m (Digest a ∷ l) n
   spoilt-here a m l s z f = record {
-    before = []; between = f .between; behind = f .behind; at = a; address = f .address; value = f .value;
+    before = [];
+    between = f .between;
+    behind = f .behind;
+    at = a;
+    address = f .address;
+    value = f .value;
     split = ap (λ (k : List Command). Digest a ∷ k) (f .split);
-    noPowerUp = f .noPowerUp; digestPart = s; writtenPart = f .part; writtenData = f .isData;
+    noPowerUp = f .noPowerUp;
+    digestPart = s;
+    writtenPart = f .part;
+    writtenData = f .isData;
     digested = unfold after in z;
     written = unfold after in (f .written);
   }
@@ -324,7 +338,15 @@ module _ (prims : Primitives) (map : Map) (F : fit map ≡ true) (n : ℕ) (D : 
       go : Class x m → Found m (x ∷ l) ⊎ WrittenAfterDigest prims map m (x ∷ l) n
       go (seals e s z) = on (subst notPowerUp (sym e) tt) (next-holds x m r w k (subst (λ (y : Command). sparesData map n y (answerTo prims map x m)) (sym e) tt))
       go (spoils {a = a} {value = value} e i d z same) = inl (record {
-        between = []; behind = l; address = a; value = value; split = ap (λ (y : Command). y ∷ l) e; noPowerUp = tt; part = i; isData = d; written = z;
+        between = [];
+        behind = l;
+        address = a;
+        value = value;
+        split = ap (λ (y : Command). y ∷ l) e;
+        noPowerUp = tt;
+        part = i;
+        isData = d;
+        written = z;
       })
       go (powers e) = inr (spoilt-later x m l (f (machineAfter prims map x m) r₁ w₁ (subst (λ (y : Command). Good (machineAfter prims map y m)) (sym e) (power-good m r k)) fails))
       go (others u s same) = on u (next-holds x m r w k s)
@@ -364,23 +386,7 @@ module _ (prims : Primitives) (map : Map) (F : fit map ≡ true) where
       let bad : digestHolds prims (m₁ .lent .constants) (m₁ .lent .cells) (partition map n) ≡ false = rw is at (f .fails) in
       let hard = hard-of (m₁ .lent .constants) (m₁ .lent .cells) (partition map n) bad in
       let D : Digested map n = record { known = rw is at (f .known); direct = hardware-direct _ hard } in
-      let s = up-held prims map F m r .holds (first-fresh prims map F m r z .awake) in
+      let s = first-since prims map F m r z in
       let first : digestHolds prims (m .lent .constants) (m .lent .cells) (partition map n) ≡ true =
-          none-fails prims (m .lent .constants) (m .lent .cells) 0 map (rw (step-constants prims map PowerUp m) at (s .checked)) n in
+      none-fails prims (m .lent .constants) (m .lent .cells) 0 map (rw (step-constants prims map PowerUp m) at (s .checked)) n in
       both prims map F n D hard G l .0 m₀ r₀ (step-small prims map PowerUp m r (record { small = w }) .small) (power-good prims map F n D hard G m r first) bad
-
--- ---- request Seven: "the digest recomputed .. equals the sensed digest", over the words that the last power-up found, which are those stored now
-
-module _ (prims : Primitives) (map : Map) (F : fit map ≡ true) (n : ℕ) (D : Digested map n) (hard : rightsOf (partition map n .kind) .hardware ≡ true) where
-  holds-equal : (k c : List ℕ) → digestHolds prims k c (partition map n) ≡ true → (storedDigest (partition map n) c ≡ 0 → ⊥)
-      → storedDigest (partition map n) c ≡ computedDigest prims k (partition map n) c
-  unfolding digestHolds
-  holds-equal k c e z = eqb-true _ _ (rw (hard, ne-eqb (storedDigest (partition map n) c) 0 z) at e)
-
-  pub since-computed : (c₀ : List ℕ) (m : Machine) → Since prims map c₀ m → (sensedAt (m .session) n ≡ 0 → ⊥)
-      → (computedDigest prims (m .lent .constants) (partition map n) c₀ ≡ sensedAt (m .session) n) × SamePartition map n c₀ (m .lent .cells)
-  unfolding partition
-  since-computed c₀ m s z =
-      let e = since-sensed prims map F c₀ m s n D in
-      let q : storedDigest (partition map n) c₀ ≡ 0 → ⊥ = λ t. z (e ∙ t) in
-      (sym (e ∙ holds-equal (m .lent .constants) c₀ (none-fails prims (m .lent .constants) c₀ 0 map (s .checked) n) q), s .locked n D q)

@@ -10,7 +10,6 @@ use borrow.Author.Tests.{leb-false, eqb-true, not-false}
 use Rattle.basics.proofs.Choice.{true-not-false}
 use Rattle.words.proofs.Words.{length-words}
 use Rattle.words.proofs.Parts.{part-same}
-use Rattle.partitions.specs.declared.Kind.the-variants as kind
 use Rattle.partitions.specs.Fitness.{fit}
 use Rattle.partitions.proofs.KindRights.{hardware-direct}
 use Rattle.partitions.proofs.Map.{inside, life-cycle-word, life-cycle-partition}
@@ -29,6 +28,7 @@ use Rattle.model.specs.Commands.{counterAt, stateAt, writeAct, readAct, 
 use Rattle.model.specs.PowerUp.{lifeCycleIn}
 use Rattle.model.proofs.Acts.{Within, says, programs, compares, within-if, within-map, perform-frame}
 use Rattle.model.proofs.Transitions.{Walk, entry-all}
+use Rattle.partitions.specs.declared.Kind.the-variants as kind
 
 unfoldable pub isTransition : Command → Bool
 isTransition (Read a) = false

@@ -1,7 +1,7 @@
 -- Commands that can be left out of a list. The idea: the acts of a read and of a front read end in an answer alone, and a refused command changes nothing; so
 -- the machine before such a command is the machine after it.
 use mathlib.Core.Path.{_≡_, refl, sym, ap, _∙_}
-use mathlib.Core.Bool.{Bool, true, false}
+use mathlib.Core.Bool.{Bool}
 use mathlib.Core.List.{List, [], _∷_, _++_}
 use Prim.Native.Nat.{ℕ}
 use Rattle.basics.specs.Choice.{if_then_else_}
@@ -9,11 +9,11 @@ use Rattle.basics.proofs.Choice.{if-both}
 use Rattle.partitions.specs.Map.{Map}
 use Rattle.model.specs.declared.Answer.{Answer}
 use Rattle.model.specs.declared.Command.{Command}
-use Rattle.model.specs.declared.Command.the-variants.{Read, FrontRead, PowerUp}
+use Rattle.model.specs.declared.Command.the-variants.{Read, FrontRead}
 use Rattle.model.specs.Lent.{Machine, Primitives}
 use Rattle.model.specs.Acts.{stay, Act, say, perform}
 use Rattle.model.specs.Commands.{readAct, frontReadAct, commandAct, readyAct}
-use Rattle.model.specs.Step.{Step, unchanged, performed, act, obey, step, after, answers, machineAfter, answerTo}
+use Rattle.model.specs.Step.{Step, unchanged, performed, act, obey, after, answers, machineAfter, answerTo}
 use Rattle.model.specs.Claims.Refusals.{Idle, reads, frontReads, refused, unlent}
 use Rattle.model.proofs.Steps.{step-both, after-append}
 use Rattle.model.proofs.Refusals.{same-machine, commands-refuse, power-ups-refuse}

@@ -10,7 +10,6 @@ use Rattle.basics.proofs.Choice.{true-not-false, if-true}
 use Rattle.basics.proofs.Range.{listed-at}
 use Rattle.words.specs.Words.{numberOf}
 use Rattle.words.proofs.Parts.{part-same}
-use Rattle.partitions.specs.declared.Kind.the-variants as kind
 use Rattle.partitions.specs.Fitness.{fit}
 use Rattle.partitions.proofs.Map.{only, partition-fit, digest-below-ten, life-cycle-partition}
 use Rattle.partitions.specs.Map.{Map, partition, numberOfKind}
@@ -27,6 +26,7 @@ use Rattle.model.specs.Claims.Terms.{Right, Digested, SamePartition}
 use Rattle.model.proofs.Acts.{perform-frame}
 use Rattle.model.proofs.Frame.{Open, unlocked, lifeCycle, act-within}
 use Rattle.model.proofs.Steps.{after-append, step-all, step-up, after-right, acted, poweredUp}
+use Rattle.partitions.specs.declared.Kind.the-variants as kind
 
 pub same-refl : {map : Map} {n : ℕ} {c : List ℕ} → SamePartition map n c c
 same-refl = record { at = λ j l u. refl }

@@ -11,7 +11,6 @@ use borrow.Author.Tests.{leb-false, le-leb, lt-leb, eqb-true, eqb-false, not-tru
 use Rattle.basics.proofs.Choice.{by-cases, and-left, and-right, and-both, and-false, if-true, if-false}
 use Rattle.words.specs.declared.Rule.{Rule}
 use Rattle.words.specs.declared.Rule.the-variants.{KeepBits, BlankOnly}
-use Rattle.words.specs.declared.Programmed.the-variants as programmed
 use Rattle.words.specs.Words.{wordsOf, partAt}
 use Rattle.words.specs.Programming.{losesBit, programAnswer, programCells, Lowest}
 use Rattle.words.proofs.Words.{length-words}
@@ -32,12 +31,15 @@ use Rattle.model.specs.Commands.{directRule, digestRule, storedDigest, s
 use Rattle.model.specs.Step.{Step, unchanged, performed, act, obey, step, after, machineAfter, answerTo}
 use Rattle.model.specs.Claims.Terms.{Right, Cipher, spares, storedWords, Allowed, TakesEffect}
 use Rattle.model.specs.Claims.Demand3.{Ready}
+use Rattle.model.specs.Claims.Sensing.{Since}
 use Rattle.model.specs.Claims.OldRule.{InAuthState, twoWords, Gains, stays, gains, OldRule}
 use Rattle.model.proofs.Acts.{Burnt, left, burnt, perform-once}
 use Rattle.model.proofs.Targets.{Written, write-once, digest-rule}
 use Rattle.model.proofs.Steps.{outcome, lengths-of, step-right-lengths, after-right}
-use Rattle.model.proofs.Ready.{step-act, Fresh, first-fresh, after-fresh}
+use Rattle.model.proofs.Ready.{step-act}
+use Rattle.model.proofs.Since.{first-since, after-since}
 use Rattle.model.proofs.Writes.{write-decided, write-takes, step-stays}
+use Rattle.words.specs.declared.Programmed.the-variants as programmed
 
 -- ---- the rule of a place
 
@@ -181,7 +183,7 @@ module _ (prims : Primitives) (C : Cipher prims) (map : Map) (F : fit map ≡ tr
 
   -- ---- a write that clears a bit, on a chip that is Ready since a power-up that found the cells c₀
 
-  clears-refused : {a : ℕ} → InAuthState map a → (c₀ : List ℕ) (m : Machine) → Fresh map c₀ m → storedDigest (partitionAt map a) c₀ ≡ 0
+  clears-refused : {a : ℕ} → InAuthState map a → (c₀ : List ℕ) (m : Machine) → Since prims map c₀ m → storedDigest (partitionAt map a) c₀ ≡ 0
       → (value j : ℕ) → Lowest KeepBits (m .lent .cells) (a / 4 * 2) (wordsOf 2 value) j
       → (answerTo prims map (Write a value) m ≡ NotBlank j) × (machineAfter prims map (Write a value) m ≡ m)
   unfolding act performed perform afterProgram turned
@@ -200,13 +202,13 @@ module _ (prims : Primitives) (C : Cipher prims) (map : Map) (F : fit map ≡ tr
     abbrev m₁ : Machine
     m₁ = after prims map l₁ (machineAfter prims map PowerUp (after prims map l₀ m))
 
-    fresh : Fresh map c₀ m₁
-    fresh = after-fresh prims map F c₀ l₁ _ (ready .lasts) (first-fresh prims map F _ (after-right prims map l₀ m r) (ready .woke))
+    since : Since prims map c₀ m₁
+    since = after-since prims map F c₀ l₁ _ (ready .lasts) (first-since prims map F _ (after-right prims map l₀ m r) (ready .woke))
 
     adding-taken : (value : ℕ) → storedDigest (partitionAt map a) c₀ ≡ 0
         → ((j : ℕ) → j < 2 → losesBit (getD (twoWords (m₁ .lent .cells) a) j 0) (getD (wordsOf 2 value) j 0) ≡ false)
         → TakesEffect prims map m₁ a value (step prims map (Write a value) m₁)
-    adding-taken value z h = write-takes prims C map F c₀ m₁ fresh a value allowed
+    adding-taken value z h = write-takes prims C map F c₀ m₁ since a value allowed
       where
         allowed : Allowed prims map (m₁ .lent .constants) c₀ (m₁ .lent .cells) a value
         allowed = record {
@@ -221,7 +223,7 @@ module _ (prims : Primitives) (C : Cipher prims) (map : Map) (F : fit map ≡ tr
     clearing-refused : (value : ℕ) → storedDigest (partitionAt map a) c₀ ≡ 0
         → (j : ℕ) → Lowest KeepBits (m₁ .lent .cells) (a / 4 * 2) (wordsOf 2 value) j
         → (answerTo prims map (Write a value) m₁ ≡ NotBlank j) × (machineAfter prims map (Write a value) m₁ ≡ m₁)
-    clearing-refused value z j low = clears-refused i c₀ m₁ fresh z value j low
+    clearing-refused value z j low = clears-refused i c₀ m₁ since z value j low
 
   pub old-rule : OldRule prims map
   old-rule = record {

@@ -10,7 +10,6 @@ use borrow.Author.Tests.{ltb-true}
 use Rattle.basics.specs.Choice.{if_then_else_}
 use Rattle.basics.proofs.Choice.{if-both}
 use Rattle.words.specs.declared.Rule.{Rule}
-use Rattle.words.specs.declared.Programmed.the-variants as programmed
 use Rattle.words.specs.Programming.{programAnswer, programCells}
 use Rattle.words.proofs.Programming.{answer-same, append-stop, append-next, program-elsewhere}
 use Rattle.model.specs.declared.Answer.{Answer}
@@ -18,6 +17,7 @@ use Rattle.model.specs.declared.Answer.the-variants.{Done}
 use Rattle.model.specs.Answers.{codeOf, valueOf}
 use Rattle.model.specs.Acts.{Turn, Act, say, program, compare, Performed, noting, perform}
 use Rattle.model.proofs.Acts.{after-both, Once}
+use Rattle.words.specs.declared.Programmed.the-variants as programmed
 
 -- by the rule, the act programs the words from a place on: it refuses with a code above 4, or piece by piece it comes to the end and answers 0
 pub data Programs (rule : Rule) : ℕ → List ℕ → Act → Type 0 where

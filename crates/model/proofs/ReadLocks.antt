@@ -1,36 +1,35 @@
 -- Read locks. The idea: of all commands only a read looks at the locks, and it changes nothing; so two machines that differ in one lock go on alike, and
 -- only reads of that partition's data tell them apart.
 use mathlib.Core.Path.{_≡_, refl, sym, ap, _∙_}
-use mathlib.Core.Bool.{Bool, true, false, not, _&&_}
+use mathlib.Core.Bool.{Bool, true, false, not}
 use mathlib.Core.List.{List, [], _∷_}
-use Prim.Native.Nat.{ℕ, _+_, _*_, _^_, _≤_, _<_}
+use Prim.Native.Nat.{ℕ}
 use native.Mathlib.Omega.{arith}
 use lib.Dec.{eqb, leb, ltb}
 use lib.ListN.{length, getD, set, length-set}
 use lib.Seq.{set-out, getD-set-same, getD-set-other}
-use borrow.Author.Tests.{eqb-true, eqb-false, eq-eqb, ltb-true, ltb-false, not-false, not-true}
+use borrow.Author.Tests.{eqb-true, eqb-false, ltb-true, ltb-false, not-false}
 use Rattle.basics.specs.Choice.{if_then_else_}
-use Rattle.basics.proofs.Choice.{true-not-false, by-cases, if-both, if-true, if-false, if-same}
-use Rattle.partitions.specs.Map.{Map, rightsOf, numberAt, partition, partitionAt, limit, inDigest}
+use Rattle.basics.proofs.Choice.{true-not-false, by-cases, if-both, if-same}
+use Rattle.partitions.specs.Map.{Map, rightsOf, numberAt, partition, partitionAt, limit}
 use Rattle.partitions.specs.Fitness.{fit}
 use Rattle.partitions.proofs.KindRights.{lockable-direct}
 use Rattle.partitions.proofs.Map.{digest-below-ten, partition-at}
 use Rattle.life_cycle.specs.Constants.{validConstants}
 use Rattle.model.specs.declared.Session.{Session}
-use Rattle.model.specs.declared.Answer.{Answer}
-use Rattle.model.specs.declared.Answer.the-variants.{Done, Denied, NotReady, WrongLength, InvalidConstants}
+use Rattle.model.specs.declared.Answer.the-variants.{Denied, NotReady}
 use Rattle.model.specs.declared.Command.{Command}
 use Rattle.model.specs.declared.Command.the-variants.{Read, Write, FrontRead, Digest, ReadLock, Transition, PowerUp}
 use Rattle.model.specs.Answers.{codeOf}
 use Rattle.model.specs.Session.{isReady, readLocked, sensedAt, sensedLocked, withLocks}
 use Rattle.model.specs.Lent.{Lent, Machine, Primitives, rightLengths}
-use Rattle.model.specs.Acts.{Turn, stay, lock, halt, die, turned, Act, say, refuse, Performed, perform}
+use Rattle.model.specs.Acts.{Turn, stay, lock, halt, die, turned, Act, Performed, perform}
 use Rattle.model.specs.Commands.{writeAct, readAct, frontReadAct, digestAct, readLockAct, moveAct, lockedTokenAct, tokenAct, entryAct, transitionAct, commandAct, readyAct}
 use Rattle.model.specs.PowerUp.{Waking, fails, wakes, waking, wokenSession}
 use Rattle.model.specs.Step.{Step, unchanged, performed, act, powerUp, obey, step, after, machineAfter, answerTo}
 use Rattle.model.specs.Claims.Terms.{Right, notPowerUp, NoPowerUp}
 use Rattle.model.specs.Claims.ReadLocks.{readsData}
-use Rattle.model.proofs.Steps.{outcome, obey-both, obeys-act, step-both, step-all, step-obeys, step-up, step-right, after-right}
+use Rattle.model.proofs.Steps.{obey-both, obeys-act, step-both, step-all, step-obeys, step-up, step-right, after-right}
 use Rattle.model.proofs.Refusals.{same-machine}
 use Rattle.model.proofs.NotReady.{no-power-up}
 
@@ -159,10 +158,11 @@ module _ (prims : Primitives) (map : Map) (n : ℕ) where
     where
       reads : (a : ℕ) → Pair (Read a) (act prims map (Read a) m) (act prims map (Read a) (with-locks ys m))
       reads a = unfold act in (
-        let q = read-still m a (m .lent .copy) (m .lent .cells) in
-        let q′ = read-still (with-locks ys m) a (m .lent .copy) (m .lent .cells) in
-        (still-alike m ys h _ _ (same-machine prims map m _ (q .0) (q .1)) (same-machine prims map (with-locks ys m) _ (q′ .0) (q′ .1)),
-        λ other. (unfold performed in (ap (λ (x : Act). perform x (m .lent .copy) (m .lent .cells) .answer) (read-alike m ys h a other)))))
+          let q = read-still m a (m .lent .copy) (m .lent .cells) in
+          let q′ = read-still (with-locks ys m) a (m .lent .copy) (m .lent .cells) in (
+            still-alike m ys h _ _ (same-machine prims map m _ (q .0) (q .1)) (same-machine prims map (with-locks ys m) _ (q′ .0) (q′ .1)),
+            λ other. (unfold performed in (ap (λ (x : Act). perform x (m .lent .copy) (m .lent .cells) .answer) (read-alike m ys h a other))),
+          ))
 
       others : (x : Command) → isRead x ≡ false → Pair x (act prims map x m) (act prims map x (with-locks ys m))
       others x e = unfold act in (rw (unread x m ys e) (performed-alike m ys h _, λ other. (unfold performed in refl)))

@@ -8,7 +8,6 @@ use native.Mathlib.Omega.{arith}
 use lib.ListN.{length, getD}
 use Rattle.words.specs.declared.Rule.{Rule}
 use Rattle.words.specs.declared.Rule.the-variants.{BlankOnly}
-use Rattle.words.specs.declared.Programmed.the-variants as programmed
 use Rattle.words.specs.Words.{numberOf, partAt}
 use Rattle.words.specs.Programming.{programAnswer}
 use Rattle.words.proofs.Parts.{blank-part, part-same}
@@ -28,6 +27,7 @@ use Rattle.model.proofs.Targets.{rule-side, Struck, write-once, digest-
 use Rattle.model.proofs.Frame.{by-aim, aimless-granule}
 use Rattle.model.proofs.Steps.{after-append, outcome, step-all}
 use Rattle.model.proofs.NamedWords.{target-tells}
+use Rattle.words.specs.declared.Programmed.the-variants as programmed
 
 -- a granule has one rule
 one-rule : (map : Map) {a b : ℕ} → OneGranule map a b → directRule (partitionAt map a) a ≡ directRule (partitionAt map b) b

@@ -1,9 +1,8 @@
--- What a power-up found, until the next. The idea: a command that leaves the phase Ready is no transition that spent a stroke; so it leaves the life cycle
--- words, and what is sensed locked, as they were, and no command but power-up writes the copy or the sensed digests.
+-- What a power-up found, until the next: one invariant for all that lasts since. The idea: a command that leaves the phase Ready is no transition that spent a stroke; so
+-- it leaves the life cycle words, and what is sensed locked, as they were, and no command but power-up writes the copy or the sensed digests.
 use mathlib.Core.Path.{_≡_, refl, sym, ap, subst, _∙_}
-use mathlib.Core.Bool.{Bool, true, false}
+use mathlib.Core.Bool.{true, false}
 use mathlib.Core.List.{List, [], _∷_, _++_}
-use mathlib.Core.Logic.{_⊎_, inl, inr, ⊎-elim}
 use mathlib.Core.Option.{Option, none, some}
 use Prim.Native.Nat.{ℕ, _+_, _*_, _/_, _≤_, _<_}
 use native.Mathlib.Omega.{arith}
@@ -11,35 +10,35 @@ use lib.Dec.{eqb}
 use lib.ListN.{getD}
 use borrow.Author.Tests.{eqb-false}
 use Rattle.basics.specs.Range.{listed}
-use Rattle.basics.proofs.Choice.{true-not-false, by-cases, if-both}
-use Rattle.partitions.specs.declared.Kind.the-variants as kind
-use Rattle.partitions.specs.Map.{Map, rightsOf, partition, partitionAt, limit, numberOfKind}
+use Rattle.basics.proofs.Choice.{true-not-false, if-both, by-cases}
+use Rattle.partitions.specs.Map.{Map, partition, limit, numberOfKind}
 use Rattle.partitions.specs.Fitness.{fit}
-use Rattle.partitions.proofs.Map.{only, partition-at, life-cycle-last, life-cycle-partition}
+use Rattle.partitions.proofs.Map.{only, life-cycle-last}
 use Rattle.life_cycle.specs.declared.LifeCycle.{LifeCycle}
 use Rattle.life_cycle.specs.declared.LifeCycle.the-variants.{Valid, Invalid}
-use Rattle.model.specs.declared.Reason.the-variants as reason
 use Rattle.model.specs.declared.Answer.the-variants.{LifeCycleFailed}
 use Rattle.model.specs.declared.Command.{Command}
 use Rattle.model.specs.declared.Command.the-variants.{Read, Write, FrontRead, Digest, ReadLock, Transition, PowerUp}
 use Rattle.model.specs.Answers.{codeOf}
 use Rattle.model.specs.Session.{isReady, sensedAt}
 use Rattle.model.specs.Lent.{Lent, Machine, Primitives}
-use Rattle.model.specs.Acts.{turned}
 use Rattle.model.specs.Commands.{storedDigest}
-use Rattle.model.specs.PowerUp.{Waking, fails, wakes, digests, firstFailing, verdictOf, lifeCycleIn, copyWord, waking, wakingOf, lifeCycleWaking, wokenCopy, wokenSession}
-use Rattle.model.specs.Step.{Step, unchanged, performed, act, powerUp, step, after, machineAfter, answerTo}
-use Rattle.model.specs.Claims.Terms.{Right, Digested, SamePartition, notPowerUp, NoPowerUp}
-use Rattle.model.specs.Claims.Refusals.{early, phaseAfter}
+use Rattle.model.specs.PowerUp.{Waking, fails, wakes, digests, verdictOf, lifeCycleIn, copyWord, waking, wakingOf, lifeCycleWaking, wokenCopy, wokenSession, wokenAnswer}
+use Rattle.model.specs.Step.{performed, act, powerUp, after, machineAfter, answerTo}
+use Rattle.model.specs.Claims.Terms.{Right, Digested, SamePartition, notPowerUp, NoPowerUp, staysReady, Lasts}
+use Rattle.model.specs.Claims.Refusals.{early}
 use Rattle.model.specs.Claims.Sensing.{Since}
-use Rattle.model.proofs.Acts.{perform-frame}
+use Rattle.model.specs.declared.Answer.{Answer}
+use Rattle.model.proofs.Acts.{perform-frame, perform-gives}
 use Rattle.model.proofs.Frame.{Open, unlocked, lifeCycle, isTransition, life-closed, act-within}
-use Rattle.model.proofs.Steps.{after-append, step-all, obeys-act, step-obeys, step-up, up-right, act-right, step-right, after-right, acted, poweredUp}
+use Rattle.model.proofs.Steps.{after-append, obeys-act, step-obeys, step-up, up-right, act-right, step-right, after-right, acted, poweredUp}
 use Rattle.model.proofs.Locks.{same-refl, same-trans, turned-sensed, turned-ready, sensed-stored, stored-same, Locked, act-same}
-use Rattle.model.proofs.Strokes.{turned-life, up-life, others-life}
 use Rattle.model.proofs.Refusals.{transitions-refuse}
-use Rattle.model.proofs.NotReady.{no-power-up}
-use Rattle.model.proofs.TransitionLeaves.{later-phase}
+use Rattle.model.proofs.NotReady.{no-power-up, later-phase}
+use Rattle.model.proofs.LifeCycleWords.{Recorded, turned-life, up-life, others-life}
+use Rattle.model.proofs.Ready.{calm-phase, act-calm, step-act}
+use Rattle.partitions.specs.declared.Kind.the-variants as kind
+use Rattle.model.specs.declared.Reason.the-variants as reason
 
 module _ (prims : Primitives) (map : Map) (F : fit map ≡ true) where
   -- ---- a power-up that leaves the phase Ready
@@ -71,6 +70,7 @@ module _ (prims : Primitives) (map : Map) (F : fit map ≡ true) where
       let w = woke (verdictOf prims map (m .lent)) (lifeCycleIn map (m .lent)) (m .lent) e in
       record {
         right = up-right prims map m r;
+        ready = e;
         checked = w .checked;
         sensed = w .sensed;
         copy = w .copy;
@@ -100,9 +100,11 @@ module _ (prims : Primitives) (map : Map) (F : fit map ≡ true) where
     felt = λ r e. z (sym (sensed-stored prims map F n D (record { cells = c₀; copy = []; constants = [] })) ∙ sym (ap (λ (d : List ℕ). getD d n 0) (s .sensed)) ∙ e);
   }
 
-  act-since : (c₀ : List ℕ) (x : Command) (m : Machine) → isTransition x ≡ false → Since prims map c₀ m → Since prims map c₀ (acted prims map x m)
-  act-since c₀ x m n s = record {
+  act-since : (c₀ : List ℕ) (x : Command) (m : Machine) → isTransition x ≡ false → isReady (acted prims map x m .session .phase) ≡ true → Since prims map c₀ m
+      → Since prims map c₀ (acted prims map x m)
+  act-since c₀ x m n e s = record {
     right = act-right prims map x m (s .right);
+    ready = e;
     checked = unfold act performed in (s .checked);
     sensed = unfold act performed in (turned-sensed _ (m .session) ∙ s .sensed);
     copy = unfold act performed in (s .copy);
@@ -117,11 +119,11 @@ module _ (prims : Primitives) (map : Map) (F : fit map ≡ true) where
   acts-held : (c₀ : List ℕ) (x : Command) (m : Machine) → notPowerUp x → isTransition x ≡ false → Held c₀ m → Held c₀ (machineAfter prims map x m)
   acts-held c₀ x m u n h = rw (step-obeys prims map x m (h .right) ∙ obeys-act prims map x m (no-power-up prims map x u), machineAfter) (record {
     right = act-right prims map x m (h .right);
-    holds = λ e. act-since c₀ x m n (h .holds (ready e));
+    holds = λ e. act-since c₀ x m n e (h .holds (still e));
   })
     where
-      ready : isReady (acted prims map x m .session .phase) ≡ true → isReady (m .session .phase) ≡ true
-      ready = unfold act performed in (turned-ready _ (m .session))
+      still : isReady (acted prims map x m .session .phase) ≡ true → isReady (m .session .phase) ≡ true
+      still = unfold act performed in (turned-ready _ (m .session))
 
   -- a transition that leaves the phase Ready changes nothing
   transition-held : (c₀ : List ℕ) (m : Machine) (target high low : ℕ) → Held c₀ m → Held c₀ (machineAfter prims map (Transition target high low) m)
@@ -158,3 +160,93 @@ module _ (prims : Primitives) (map : Map) (F : fit map ≡ true) where
   since-held m r l₀ l₁ u =
       let m₀ = after prims map l₀ m in
       rw after-append (unfold after in (after-held (m₀ .lent .cells) l₁ (machineAfter prims map PowerUp m₀) u (up-held m₀ (after-right prims map l₀ m r))))
+
+  -- ---- at every point of a list from a power-up
+
+  pub record Reached (m : Machine) : Type 0 where
+    pub found : List ℕ
+    pub held : Held found m
+
+  pub first-reached : (m : Machine) → Right map m → Reached (machineAfter prims map PowerUp m)
+  first-reached m r = record { found = m .lent .cells; held = up-held m r }
+
+  pub step-reached : (x : Command) (m : Machine) → Reached m → Reached (machineAfter prims map x m)
+  step-reached (Read a) m h = record { found = h .found; held = step-held (h .found) (Read a) m tt (h .held) }
+  step-reached (Write a value) m h = record { found = h .found; held = step-held (h .found) (Write a value) m tt (h .held) }
+  step-reached (FrontRead a) m h = record { found = h .found; held = step-held (h .found) (FrontRead a) m tt (h .held) }
+  step-reached (Digest a) m h = record { found = h .found; held = step-held (h .found) (Digest a) m tt (h .held) }
+  step-reached (ReadLock number) m h = record { found = h .found; held = step-held (h .found) (ReadLock number) m tt (h .held) }
+  step-reached (Transition target high low) m h = record { found = h .found; held = step-held (h .found) (Transition target high low) m tt (h .held) }
+  step-reached PowerUp m h = first-reached m (h .held .right)
+
+  pub after-reached : (l : List Command) (m : Machine) → Reached m → Reached (after prims map l m)
+  unfolding after
+  after-reached [] m h = h
+  after-reached (x ∷ l) m h = after-reached l (machineAfter prims map x m) (step-reached x m h)
+
+  pub since-reached : (m : Machine) → Right map m → (l : List Command) → Reached (after prims map (PowerUp ∷ l) m)
+  unfolding after
+  since-reached m r l = after-reached l (machineAfter prims map PowerUp m) (first-reached m r)
+
+  pub recorded : (m : Machine) → Reached m → isReady (m .session .phase) ≡ true → Recorded prims map m
+  recorded m h e = h .held .holds e .life
+
+  -- ---- while Ready lasts
+
+  -- a power-up that answers 0 leaves the phase Ready
+  life-wakes : (life : LifeCycle) (Q : Waking → Type 0) → ((state count : ℕ) → Q (wakes state count))
+      → codeOf (wokenAnswer (lifeCycleWaking life)) ≡ 0x00 → Q (lifeCycleWaking life)
+  unfolding lifeCycleWaking wokenAnswer
+  life-wakes Invalid Q h = λ e. absurd (omega arith)
+  life-wakes (Valid state count) Q h =
+      if-both (λ (w : Waking). codeOf (wokenAnswer w) ≡ 0x00 → Q w) _ _ _ (λ t e. absurd (omega arith)) (λ t e. h state count)
+
+  waking-wakes : (verdict : Option ℕ) (life : LifeCycle) (Q : Waking → Type 0) → ((state count : ℕ) → Q (wakes state count))
+      → codeOf (wokenAnswer (wakingOf verdict life)) ≡ 0x00 → Q (wakingOf verdict life)
+  unfolding wakingOf wokenAnswer
+  waking-wakes (some number) life Q h = λ e. absurd (omega arith)
+  waking-wakes none life Q h = life-wakes life Q h
+
+  pub up-wakes : (m : Machine) (Q : Waking → Type 0) → ((state count : ℕ) → Q (wakes state count)) → codeOf (powerUp prims map m .result .answer) ≡ 0x00
+      → Q (waking prims map (m .lent))
+  unfolding powerUp waking
+  up-wakes m Q h = waking-wakes _ _ Q h
+
+  woke-ready : (m : Machine) → codeOf (powerUp prims map m .result .answer) ≡ 0x00 → isReady (poweredUp prims map m .session .phase) ≡ true
+  unfolding powerUp wokenSession isReady
+  woke-ready m e = up-wakes m (λ (w : Waking). isReady (wokenSession map w (m .lent) .phase) ≡ true) (λ state count. refl) e
+
+  pub first-since : (m : Machine) → Right map m → codeOf (answerTo prims map PowerUp m) ≡ 0x00 → Since prims map (m .lent .cells) (machineAfter prims map PowerUp m)
+  first-since m r = rw (step-up prims map m r, machineAfter, answerTo) (λ e. up-since m r (woke-ready m e))
+
+  act-ready : (x : Command) (m : Machine) → staysReady x (act prims map x m .result .answer) → isReady (m .session .phase) ≡ true
+      → isReady (acted prims map x m .session .phase) ≡ true
+  unfolding act performed
+  act-ready x m h e = rw (calm-phase _ (m .session) (perform-gives (act-calm prims map m x) (m .lent .copy) (m .lent .cells) h)) e
+
+  -- Ready lasts over no power-up
+  lasts-on : (x : Command) (answer : Answer) → staysReady x answer → notPowerUp x
+  lasts-on (Read a) answer h = tt
+  lasts-on (Write a value) answer h = tt
+  lasts-on (FrontRead a) answer h = tt
+  lasts-on (Digest a) answer h = tt
+  lasts-on (ReadLock number) answer h = tt
+  lasts-on (Transition target high low) answer h = tt
+  lasts-on PowerUp answer h = h
+
+  pub step-since : (c₀ : List ℕ) (x : Command) (m : Machine) → staysReady x (answerTo prims map x m) → Since prims map c₀ m → Since prims map c₀ (machineAfter prims map x m)
+  step-since c₀ x m h s =
+      let e = step-act prims map x m (s .right) h in
+      step-held c₀ x m (lasts-on x (answerTo prims map x m) h) (record { right = s .right; holds = λ q. s }) .holds
+      (rw (e, machineAfter) (act-ready x m (rw (e, answerTo) at h) (s .ready)))
+
+  pub after-since : (c₀ : List ℕ) (l : List Command) (m : Machine) → Lasts prims map l m → Since prims map c₀ m → Since prims map c₀ (after prims map l m)
+  unfolding Lasts after
+  after-since c₀ [] m h s = s
+  after-since c₀ (x ∷ l) m h s = after-since c₀ l (machineAfter prims map x m) (h .1) (step-since c₀ x m (h .0) s)
+
+  -- ---- what is sensed is what was stored
+
+  pub since-sensed : (c₀ : List ℕ) (m : Machine) → Since prims map c₀ m → (n : ℕ) → Digested map n → sensedAt (m .session) n ≡ storedDigest (partition map n) c₀
+  unfolding sensedAt
+  since-sensed c₀ m s n D = ap (λ (d : List ℕ). getD d n 0) (s .sensed) ∙ sensed-stored prims map F n D (record { cells = c₀; copy = []; constants = [] })

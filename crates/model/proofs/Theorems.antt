@@ -18,7 +18,7 @@ use Rattle.model.specs.Claims.FailedPowerUps.{FailedPowerUps}
 use Rattle.model.specs.Claims.ReadLocks.{ReadLocks}
 use Rattle.model.specs.Claims.Sensing.{Sensing}
 use Rattle.model.specs.Claims.All.{Claims}
-use Rattle.model.proofs.Steps.{bits-stay, after-right}
+use Rattle.model.proofs.Steps.{bits-stay}
 use Rattle.model.proofs.Refusals.{commands-refuse, power-ups-refuse, transitions-refuse}
 use Rattle.model.proofs.LeftOut.{left-out}
 use Rattle.model.proofs.Deaths.{deaths-told}
@@ -30,14 +30,14 @@ use Rattle.model.proofs.WriteCodes.{write-exact, write-allowed}
 use Rattle.model.proofs.OldRule.{old-rule}
 use Rattle.model.proofs.Chips.{two-chips}
 use Rattle.model.proofs.Digests.{whole-digests}
-use Rattle.model.proofs.Strokes.{never-four, courses-run, counts, since-living}
+use Rattle.model.proofs.Courses.{never-four, courses-run, counts}
 use Rattle.model.proofs.TransitionCells.{step-told}
 use Rattle.model.proofs.TransitionCodes.{fair-exact, tokens-compared}
-use Rattle.model.proofs.TransitionLeaves.{leaves, living-fair}
+use Rattle.model.proofs.TransitionLeaves.{leaves, reached-fair}
 use Rattle.model.proofs.TokenPlaces.{stored-place}
-use Rattle.model.proofs.Since.{since-held}
-use Rattle.model.proofs.Sensing.{alone, again, fronts, cleared, failed}
-use Rattle.model.proofs.Device.{device-final}
+use Rattle.model.proofs.Since.{since-held, since-reached}
+use Rattle.model.proofs.PowerUps.{alone, again, cleared, failed}
+use Rattle.model.proofs.FrontReads.{fronts, device-final}
 use Rattle.model.proofs.Quiet.{after-unsensed}
 use Rattle.model.proofs.ReadLocks.{locks-last, lock-others, lock-says-nothing}
 use Rattle.model.proofs.DigestChecks.{digest-exact, digest-done, digest-only, digest-stored, digest-checks}
@@ -87,11 +87,8 @@ transitions prims map F = record {
   stopped = λ m target high low. step-told prims map m target high low F .stopped;
   exactly = fair-exact prims map;
   tokens = tokens-compared prims map;
-  fair = λ m r l e. (
-    living-fair prims map F (after prims map (PowerUp ∷ l) m) (after-right prims map (PowerUp ∷ l) m r) (since-living prims map F m r l) e,
-    never-four prims map F m r l,
-  );
-  leaves = λ m r l. leaves prims map F (after prims map (PowerUp ∷ l) m) (after-right prims map (PowerUp ∷ l) m r) (since-living prims map F m r l);
+  fair = λ m r l e. (reached-fair prims map F (after prims map (PowerUp ∷ l) m) (since-reached prims map F m r l) e, never-four prims map F m r l);
+  leaves = λ m r l. leaves prims map F (after prims map (PowerUp ∷ l) m) (since-reached prims map F m r l);
   courses = courses-run prims map F;
   counts = counts;
   places = stored-place map F;
@@ -120,7 +117,7 @@ pub sensing : (prims : Primitives) (map : Map) → fit map ≡ true → Sensing 
 sensing prims map F = record {
   since = λ m r l₀ l₁ u. since-held prims map F m r l₀ l₁ u .holds;
   fronts = fronts prims map F;
-  device = device-final prims map F;
+  device = λ m r n D front l₁ l₂ z. device-final prims map F m r n D l₁ z l₂;
   unsensed = after-unsensed prims map;
   cleared = cleared prims map;
   failed = failed prims map;

@@ -4,7 +4,6 @@ use mathlib.Core.Bool.{true}
 use Prim.Native.Nat.{ℕ, _+_, _/_, _≤_}
 use native.Mathlib.Omega.{arith}
 use Rattle.partitions.specs.declared.Kind.{Kind}
-use Rattle.partitions.specs.declared.Kind.the-variants as kind
 use Rattle.partitions.specs.Map.{Map, rightsOf, partition, numberOfKind}
 use Rattle.partitions.specs.Fitness.{fit}
 use Rattle.partitions.proofs.Map.{partition-fit}
@@ -13,6 +12,7 @@ use Rattle.life_cycle.specs.declared.Token.{Token}
 use Rattle.life_cycle.specs.declared.Token.the-variants.{Nothing, RawUnlock, TestUnlock, TestExit, Rma}
 use Rattle.model.specs.Commands.{tokenKind, tokenOffset}
 use Rattle.model.specs.Claims.Transitions.{StoredAt}
+use Rattle.partitions.specs.declared.Kind.the-variants as kind
 
 module _ (map : Map) (F : fit map ≡ true) where
   -- words up to the digest of a secret

@@ -1,6 +1,6 @@
 -- Which cells a transition leaves, by its code. The idea: each end has its cells; counter words and state words adjoin, so that a move programs one run of words.
 use mathlib.Core.Path.{_≡_, refl, sym, ap, _∙_}
-use mathlib.Core.Bool.{true, not}
+use mathlib.Core.Bool.{true}
 use mathlib.Core.List.{List, [], _∷_, _++_}
 use mathlib.Core.Logic.{_⊎_, ⊎-elim}
 use Prim.Native.Nat.{ℕ, suc, _+_, _*_, _^_, _≤_, _<_}
@@ -9,10 +9,8 @@ use lib.ListN.{length, length-append}
 use lib.Seq.{sets}
 use Rattle.basics.proofs.Choice.{true-not-false}
 use Rattle.words.specs.declared.Rule.{Rule}
-use Rattle.words.specs.declared.Programmed.the-variants as programmed
 use Rattle.words.specs.Programming.{programAnswer, programCells}
 use Rattle.words.proofs.Programming.{program-elsewhere, program-takes, stored-done, answer-same, append-next}
-use Rattle.partitions.specs.declared.Kind.the-variants as kind
 use Rattle.partitions.specs.Map.{Map, numberOfKind}
 use Rattle.partitions.specs.Fitness.{fit}
 use Rattle.partitions.proofs.Map.{life-cycle-last, life-cycle-partition, partition-fit}
@@ -28,6 +26,8 @@ use Rattle.model.specs.Claims.Transitions.{strokeOnly, strokeWords, move
 use Rattle.model.specs.Claims.Terms.{Put}
 use Rattle.model.proofs.Steps.{lengths-of}
 use Rattle.model.proofs.TransitionEnds.{Ending, unknownTarget, used, counterStops, notInTable, tokenNotLocked, tokenDiffers, stateStops, moved, stroke, struck, move, Taken, clash, step-ends}
+use Rattle.words.specs.declared.Programmed.the-variants as programmed
+use Rattle.partitions.specs.declared.Kind.the-variants as kind
 
 -- ---- words programmed in two pieces that adjoin
 
@@ -50,9 +50,11 @@ both-taken : (rule : Rule) (xs ys c : List ℕ) (at : ℕ) → programAnswer rul
     × (programCells rule (programCells rule c at xs) (at + length xs) ys ≡ programCells rule c at (xs ++ ys))
 both-taken rule xs ys c at e f =
     let g : programAnswer rule c at (xs ++ ys) ≡ programmed.Done =
-        append-next rule xs ys c at e ∙ sym (answer-same rule ys _ c (at + length xs) (λ j l u. program-elsewhere rule c xs at j (λ lo hi. omega arith))) ∙ f in
-    (g, stored-done rule _ ys (at + length xs) f ∙ ap (λ (d : List ℕ). sets d (at + length xs) ys) (stored-done rule c xs at e)
-    ∙ sets-append xs ys c at ∙ sym (stored-done rule c (xs ++ ys) at g))
+    append-next rule xs ys c at e ∙ sym (answer-same rule ys _ c (at + length xs) (λ j l u. program-elsewhere rule c xs at j (λ lo hi. omega arith))) ∙ f in (
+      g,
+      stored-done rule _ ys (at + length xs) f ∙ ap (λ (d : List ℕ). sets d (at + length xs) ys) (stored-done rule c xs at e)
+          ∙ sets-append xs ys c at ∙ sym (stored-done rule c (xs ++ ys) at g),
+    )
 
 -- ---- what the code tells of the cells
 
@@ -104,28 +106,52 @@ module _ (prims : Primitives) (map : Map) (F : fit map ≡ true) (m : Machine) (
     told : {answer : Answer} {cells : List ℕ} → Ending prims map m target given answer cells → CellsTold prims map m target given answer cells
     unfolding strokeOnly
     told (unknownTarget h e) = rw e (record {
-      used = λ q. absurd (omega arith); spent = λ q. absurd (true-not-false q refl); moved = λ q. absurd (omega arith); stopped = λ q. absurd (omega arith);
+      used = λ q. absurd (omega arith);
+      spent = λ q. absurd (true-not-false q refl);
+      moved = λ q. absurd (omega arith);
+      stopped = λ q. absurd (omega arith);
     })
     told (used l h e f) = rw (e, f) (record {
-      used = λ q. refl; spent = λ q. absurd (true-not-false q refl); moved = λ q. absurd (omega arith); stopped = λ q. absurd (omega arith);
+      used = λ q. refl;
+      spent = λ q. absurd (true-not-false q refl);
+      moved = λ q. absurd (omega arith);
+      stopped = λ q. absurd (omega arith);
     })
     told (counterStops r h e f) = rw (e, f) (record {
-      used = λ q. absurd (omega arith); spent = λ q. absurd (true-not-false q refl); moved = λ q. absurd (omega arith); stopped = λ q. counter h refl;
+      used = λ q. absurd (omega arith);
+      spent = λ q. absurd (true-not-false q refl);
+      moved = λ q. absurd (omega arith);
+      stopped = λ q. counter h refl;
     })
     told (notInTable t h e f) = rw (e, f) (record {
-      used = λ q. absurd (omega arith); spent = λ q. put-stroke t; moved = λ q. absurd (omega arith); stopped = λ q. absurd (omega arith);
+      used = λ q. absurd (omega arith);
+      spent = λ q. put-stroke t;
+      moved = λ q. absurd (omega arith);
+      stopped = λ q. absurd (omega arith);
     })
     told (tokenNotLocked t h e f) = rw (e, f) (record {
-      used = λ q. absurd (omega arith); spent = λ q. put-stroke t; moved = λ q. absurd (omega arith); stopped = λ q. absurd (omega arith);
+      used = λ q. absurd (omega arith);
+      spent = λ q. put-stroke t;
+      moved = λ q. absurd (omega arith);
+      stopped = λ q. absurd (omega arith);
     })
     told (tokenDiffers t h e f) = rw (e, f) (record {
-      used = λ q. absurd (omega arith); spent = λ q. put-stroke t; moved = λ q. absurd (omega arith); stopped = λ q. absurd (omega arith);
+      used = λ q. absurd (omega arith);
+      spent = λ q. put-stroke t;
+      moved = λ q. absurd (omega arith);
+      stopped = λ q. absurd (omega arith);
     })
     told (stateStops t a h e f) = rw (e, f) (record {
-      used = λ q. absurd (omega arith); spent = λ q. absurd (true-not-false q refl); moved = λ q. absurd (omega arith); stopped = λ q. state (put-stroke t) h;
+      used = λ q. absurd (omega arith);
+      spent = λ q. absurd (true-not-false q refl);
+      moved = λ q. absurd (omega arith);
+      stopped = λ q. state (put-stroke t) h;
     })
     told (moved t h g e f) = rw (e, f) (record {
-      used = λ q. absurd (omega arith); spent = λ q. absurd (true-not-false q refl); moved = λ q. put-move t g; stopped = λ q. absurd (omega arith);
+      used = λ q. absurd (omega arith);
+      spent = λ q. absurd (true-not-false q refl);
+      moved = λ q. put-move t g;
+      stopped = λ q. absurd (omega arith);
     })
 
 module _ (prims : Primitives) (map : Map) (m : Machine) (target high low : ℕ) where

@@ -9,7 +9,6 @@ use lib.Dec.{eqb}
 use borrow.Author.Tests.{eqb-false}
 use Rattle.basics.specs.Choice.{if_then_else_}
 use Rattle.basics.proofs.Choice.{true-not-false, if-true, if-false}
-use Rattle.words.specs.declared.Programmed.the-variants as programmed
 use Rattle.words.specs.Programming.{programAnswer}
 use Rattle.words.proofs.Programming.{refused-not-done, program-elsewhere, answer-same}
 use Rattle.partitions.specs.Map.{Map, numberOfKind}
@@ -30,6 +29,7 @@ use Rattle.model.specs.Step.{answerTo}
 use Rattle.model.specs.Claims.Refusals.{early}
 use Rattle.model.specs.Claims.Transitions.{Stops, counterRefused, stateRefused, strokeWords, Compared, Asked, strokeOnly, isStored, Fair, Unlocked}
 use Rattle.model.proofs.TransitionEnds.{struck, move, Ending, unknownTarget, used, counterStops, notInTable, tokenNotLocked, tokenDiffers, stateStops, moved, Room, step-ends}
+use Rattle.words.specs.declared.Programmed.the-variants as programmed
 
 module _ (prims : Primitives) (map : Map) (m : Machine) (target given : ℕ) where
   -- the code that the table's entry comes to, where the words are taken
@@ -115,7 +115,9 @@ module _ (prims : Primitives) (map : Map) (m : Machine) (target given : ℕ) whe
   no-why : {answer answer′ : Answer} → answer ≡ answer′ → strokeOnly (codeOf answer′) ≡ false → eqb (codeOf answer′) 0x00 ≡ false → Causes (codeOf answer)
   unfolding strokeOnly
   no-why e f g = rw e (record {
-    no-entry = λ q. absurd (true-not-false (rw q) f); no-lock = λ q. absurd (true-not-false (rw q) f); other = λ q. absurd (true-not-false (rw q) f);
+    no-entry = λ q. absurd (true-not-false (rw q) f);
+    no-lock = λ q. absurd (true-not-false (rw q) f);
+    other = λ q. absurd (true-not-false (rw q) f);
     same = λ q. absurd (eqb-false _ _ g q);
   })
 
@@ -207,10 +209,16 @@ module _ (prims : Primitives) (map : Map) (m : Machine) (target given : ℕ) whe
   unfolding sameCode
   exact c e =
       let p = place e in
-      let w = why e in
-      (past-only p, used-only c p, λ l k. ((four-stops e, stops-four l k e), λ n.
-      (let d = is-due p l k n in
-      ((w .no-entry, λ q. d ∙ forbidden-due q), (w .no-lock, λ q. d ∙ open-due q), (w .other, λ q. d ∙ asked-due false q), (w .same, λ q. d ∙ asked-due true q)))))
+      let w = why e in (
+        past-only p,
+        used-only c p,
+        λ l k. (
+          (four-stops e, stops-four l k e),
+          λ n.
+              (let d = is-due p l k n in
+              ((w .no-entry, λ q. d ∙ forbidden-due q), (w .no-lock, λ q. d ∙ open-due q), (w .other, λ q. d ∙ asked-due false q), (w .same, λ q. d ∙ asked-due true q))),
+        ),
+      )
 
 pub fair-exact : (prims : Primitives) (map : Map) (m : Machine) → Fair prims map m → (target high low : ℕ)
     → Exact prims map m target (high * 2 ^ 64 + low) (codeOf (answerTo prims map (Transition target high low) m))

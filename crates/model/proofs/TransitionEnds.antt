@@ -9,7 +9,6 @@ use lib.Dec.{eqb, leb, ltb}
 use borrow.Author.Tests.{eqb-true, not-false, not-true, leb-true, leb-false, ltb-true, ltb-false, le-leb}
 use Rattle.basics.specs.Choice.{if_then_else_}
 use Rattle.basics.proofs.Choice.{true-not-false, by-cases, if-both, and-both}
-use Rattle.words.specs.declared.Programmed.the-variants as programmed
 use Rattle.words.specs.Programming.{programAnswer, programCells}
 use Rattle.partitions.specs.Map.{Map}
 use Rattle.life_cycle.specs.declared.Token.{Token}
@@ -32,6 +31,7 @@ use Rattle.model.specs.Claims.Refusals.{early}
 use Rattle.model.specs.Claims.Transitions.{Stored, Compared, Asked, strokeOnly, isStored, strokeWords, Fair, Unlocked}
 use Rattle.model.proofs.Acts.{after-both}
 use Rattle.model.proofs.Steps.{outcome}
+use Rattle.words.specs.declared.Programmed.the-variants as programmed
 
 -- an early code is none of those after the stroke
 pub clash : (code : ℕ) → early code ≡ true → strokeOnly code ≡ true → ⊥

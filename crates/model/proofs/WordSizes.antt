@@ -1,8 +1,7 @@
 -- Cells stay words of 16 bits. The idea: whatever a command programs is made of words of 16 bits.
-use mathlib.Core.Path.{_≡_, refl}
-use mathlib.Core.Bool.{Bool, true, false}
+use mathlib.Core.Bool.{Bool}
 use mathlib.Core.List.{List, [], _∷_}
-use Prim.Native.Nat.{ℕ, zero, suc, _+_, _*_, _/_, _%_, _^_, _<_}
+use Prim.Native.Nat.{ℕ, zero, suc, _+_, _/_, _<_}
 use native.Mathlib.Omega.{arith}
 use lib.Dec.{eqb, ltb}
 use lib.ListN.{length, getD, set}
@@ -11,7 +10,6 @@ use borrow.Author.Tests.{eqb-true, eqb-false, ltb-true, ltb-false}
 use Rattle.basics.specs.Choice.{if_then_else_}
 use Rattle.basics.proofs.Choice.{by-cases, if-both}
 use Rattle.words.specs.declared.Rule.{Rule}
-use Rattle.words.specs.declared.Programmed.the-variants as programmed
 use Rattle.words.specs.Words.{wordsOf}
 use Rattle.words.specs.Programming.{programAnswer, programCells}
 use Rattle.words.proofs.Words.{Words}

@@ -1,25 +1,21 @@
 -- When a write answers 5, 4 and 0. The idea: the guards of its act are the reasons of a 5, one by one; past them the granule decides, and its words are all taken or
 -- one of them is the lowest that refuses.
 use mathlib.Core.Path.{_≡_, refl, sym, ap, _∙_}
-use mathlib.Core.Bool.{Bool, true, false, not, _&&_}
+use mathlib.Core.Bool.{true, false, not, _&&_}
 use mathlib.Core.List.{List}
-use mathlib.Core.Logic.{_↔_, _⊎_, inl, inr, ⊎-elim}
-use Prim.Native.Nat.{ℕ, _≤_, _<_}
+use mathlib.Core.Logic.{_↔_}
+use Prim.Native.Nat.{ℕ}
 use native.Mathlib.Omega.{arith}
 use lib.Dec.{eqb, leb}
-use borrow.Author.Tests.{eqb-true, eqb-false, eq-eqb, ne-eqb, leb-true, leb-false, le-leb, lt-leb, not-false, not-true}
-use Rattle.basics.proofs.Choice.{true-not-false, and-left, and-right, and-both, if-both, not-passed}
+use borrow.Author.Tests.{eqb-true, eqb-false, eq-eqb, leb-true, leb-false, le-leb, not-false, not-true}
+use Rattle.basics.proofs.Choice.{true-not-false, and-left, and-right, and-both, if-both}
 use Rattle.words.specs.declared.Programmed.{Programmed}
-use Rattle.words.specs.declared.Programmed.the-variants as programmed
 use Rattle.words.specs.Programming.{programAnswer, Lowest}
 use Rattle.words.proofs.Programming.{refused-not-done, refused-lowest, lowest-refused}
-use Rattle.partitions.specs.declared.Kind.{Kind}
-use Rattle.partitions.specs.declared.Kind.the-variants as kind
 use Rattle.partitions.specs.Fitness.{fit}
 use Rattle.partitions.proofs.KindRights.{life-cycle-only}
 use Rattle.partitions.proofs.Map.{inside}
 use Rattle.partitions.specs.Map.{Map, rightsOf, numberAt, partitionAt, limit, inDigest, firstWord}
-use Rattle.model.specs.declared.Phase.the-variants as phase
 use Rattle.model.specs.declared.Answer.{Answer}
 use Rattle.model.specs.declared.Answer.the-variants.{Done, NotBlank, Denied}
 use Rattle.model.specs.declared.Command.{Command}
@@ -28,15 +24,18 @@ use Rattle.model.specs.Answers.{codeOf, valueOf}
 use Rattle.model.specs.Session.{isReady, sensedAt, sensedLocked}
 use Rattle.model.specs.Lent.{Machine, Primitives}
 use Rattle.model.specs.Acts.{Act, perform}
-use Rattle.model.specs.Commands.{directRule, storedDigest, writeAct, commandAct, readyAct}
-use Rattle.model.specs.Step.{act, performed, obey, step, after, machineAfter, answerTo}
+use Rattle.model.specs.Commands.{directRule, writeAct, commandAct, readyAct}
+use Rattle.model.specs.Step.{act, performed, obey, after, machineAfter, answerTo}
 use Rattle.model.specs.Claims.Terms.{Right, Cipher, Digested, storedWords, Allowed}
 use Rattle.model.specs.Claims.Demand3.{Ready}
+use Rattle.model.specs.Claims.Sensing.{Since}
 use Rattle.model.specs.Claims.Burns.{WriteDenied, past, inLifeCycle, inHardwareDigest, locked}
 use Rattle.model.proofs.Acts.{after-both}
 use Rattle.model.proofs.Steps.{step-obeys, after-right, after-constants, step-constants}
-use Rattle.model.proofs.Ready.{Fresh, first-fresh, after-fresh}
+use Rattle.model.proofs.Since.{first-since, after-since, since-sensed}
 use Rattle.model.proofs.Writes.{write-takes}
+use Rattle.words.specs.declared.Programmed.the-variants as programmed
+use Rattle.model.specs.declared.Phase.the-variants as phase
 
 module _ (prims : Primitives) (map : Map) (m : Machine) (a value : ℕ) where
   abbrev Takes : Programmed → Type 0
@@ -125,13 +124,17 @@ module _ (prims : Primitives) (map : Map) (m : Machine) (a value : ℕ) where
 
   -- ---- since a power-up
 
-  done-allowed : fit map ≡ true → (c₀ : List ℕ) → Fresh map c₀ m → {answer : Answer} → WriteEnd answer → codeOf answer ≡ 0x00
+  done-allowed : fit map ≡ true → (c₀ : List ℕ) → Since prims map c₀ m → {answer : Answer} → WriteEnd answer → codeOf answer ≡ 0x00
       → Allowed prims map (m .lent .constants) c₀ (m .lent .cells) a value
   unfolding partitionAt
   done-allowed F c₀ f (denied d e) = rw e (λ z. absurd (omega arith))
   done-allowed F c₀ f (stops p t e) = rw e (λ z. absurd (omega arith))
   done-allowed F c₀ f (done p t e) = λ z. record {
-    below = leb-false _ _ (p .below); direct = p .direct; notDigest = p .soft; unlocked = sym (f .felt (numberAt map a) known) ∙ p .zero; takes = t;
+    below = leb-false _ _ (p .below);
+    direct = p .direct;
+    notDigest = p .soft;
+    unlocked = sym (since-sensed prims map F c₀ m f (numberAt map a) known) ∙ p .zero;
+    takes = t;
   }
     where
       known : Digested map (numberAt map a)
@@ -145,7 +148,8 @@ module _ (prims : Primitives) (C : Cipher prims) (map : Map) (F : fit map ≡ tr
   write-allowed m r l₀ l₁ ready a value =
       let m₀ = after prims map l₀ m in
       let m₁ = after prims map l₁ (machineAfter prims map PowerUp m₀) in
-      let f = after-fresh prims map F (m₀ .lent .cells) l₁ (machineAfter prims map PowerUp m₀) (ready .lasts) (first-fresh prims map F m₀ (after-right prims map l₀ m r) (ready .woke)) in
-      let k : m₁ .lent .constants ≡ m .lent .constants = after-constants prims map l₁ _ ∙ step-constants prims map PowerUp m₀ ∙ after-constants prims map l₀ m in
-      ((λ z. rw k at (done-allowed prims map m₁ a value F (m₀ .lent .cells) f (ready-ends prims map m₁ a value (f .right) (f .awake)) z)),
-      λ al. ap codeOf (write-takes prims C map F (m₀ .lent .cells) m₁ f a value (rw k al) .done))
+      let f = after-since prims map F (m₀ .lent .cells) l₁ (machineAfter prims map PowerUp m₀) (ready .lasts) (first-since prims map F m₀ (after-right prims map l₀ m r) (ready .woke)) in
+      let k : m₁ .lent .constants ≡ m .lent .constants = after-constants prims map l₁ _ ∙ step-constants prims map PowerUp m₀ ∙ after-constants prims map l₀ m in (
+        (λ z. rw k at (done-allowed prims map m₁ a value F (m₀ .lent .cells) f (ready-ends prims map m₁ a value (f .right) (f .ready)) z)),
+        λ al. ap codeOf (write-takes prims C map F (m₀ .lent .cells) m₁ f a value (rw k al) .done),
+      )

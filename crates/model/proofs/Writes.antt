@@ -1,4 +1,4 @@
--- A write that the rules allow takes effect and reads back. The idea: on a fresh chip the guards pass and the granule is programmed; only a write to
+-- A write that the rules allow takes effect and reads back. The idea: on a chip that is Ready since a power-up the guards pass and the granule is programmed; only a write to
 -- that granule that answers 0 changes its words, whatever else comes; and a read of them unscrambles what was scrambled.
 use mathlib.Core.Path.{_≡_, refl, sym, ap, ap₂, _∙_}
 use mathlib.Core.Bool.{true, false, not, _&&_}
@@ -17,7 +17,6 @@ use Rattle.words.proofs.Words.{length-words, number-block}
 use Rattle.words.proofs.Parts.{part-number-lt, part-same}
 use Rattle.words.proofs.Programming.{program-elsewhere, program-takes}
 use Rattle.partitions.specs.declared.Kind.{Kind}
-use Rattle.partitions.specs.declared.Kind.the-variants as kind
 use Rattle.partitions.specs.declared.Partition.{Partition}
 use Rattle.partitions.specs.Fitness.{fit}
 use Rattle.partitions.proofs.KindRights.{soft-plain}
@@ -35,12 +34,15 @@ use Rattle.model.specs.Commands.{directRule, granule, storedDigest, scra
 use Rattle.model.specs.Step.{Step, unchanged, performed, act, powerUp, step, after, machineAfter, answerTo}
 use Rattle.model.specs.Claims.Terms.{Right, Cipher, Digested, spares, storedWords, usedValue, Lasts, Spared, Allowed, TakesEffect}
 use Rattle.model.specs.Claims.Demand3.{Ready}
+use Rattle.model.specs.Claims.Sensing.{Since}
 use Rattle.model.proofs.Acts.{after-done, Burnt, left, burnt, perform-once, not-done}
 use Rattle.model.proofs.Targets.{Written, write-once}
 use Rattle.model.proofs.Frame.{Sealed, by-aim, aimless-granule}
 use Rattle.model.proofs.Steps.{outcome, step-all, cells-length, step-right, after-right, step-constants, after-constants}
 use Rattle.model.proofs.SecondBurns.{after-held}
-use Rattle.model.proofs.Ready.{step-act, Fresh, first-fresh, step-fresh, after-fresh}
+use Rattle.model.proofs.Ready.{step-act}
+use Rattle.model.proofs.Since.{first-since, step-since, after-since, since-sensed}
+use Rattle.partitions.specs.declared.Kind.the-variants as kind
 
 -- ---- either rule
 
@@ -85,23 +87,23 @@ module _ (prims : Primitives) (C : Cipher prims) (map : Map) (F : fit map ≡ tr
   unfolding partitionAt
   direct-known a l d = record { known = inside map F l .known; direct = d }
 
-  not-sensed : (c₀ : List ℕ) (m : Machine) → Fresh map c₀ m → (a : ℕ) → a < limit map → rightsOf (partitionAt map a .kind) .direct ≡ true
+  not-sensed : (c₀ : List ℕ) (m : Machine) → Since prims map c₀ m → (a : ℕ) → a < limit map → rightsOf (partitionAt map a .kind) .direct ≡ true
       → storedDigest (partitionAt map a) c₀ ≡ 0 → sensedLocked (m .session) (numberAt map a) ≡ false
   unfolding sensedLocked partitionAt
-  not-sensed c₀ m f a l d z = rw (eq-eqb _ 0 (f .felt (numberAt map a) (direct-known a l d) ∙ z))
+  not-sensed c₀ m f a l d z = rw (eq-eqb _ 0 (since-sensed prims map F c₀ m f (numberAt map a) (direct-known a l d) ∙ z))
 
   -- where the guards pass, the write is to program its granule
-  pub write-decided : (c₀ : List ℕ) (m : Machine) → Fresh map c₀ m → (a value : ℕ) → a < limit map → rightsOf (partitionAt map a .kind) .direct ≡ true
+  pub write-decided : (c₀ : List ℕ) (m : Machine) → Since prims map c₀ m → (a value : ℕ) → a < limit map → rightsOf (partitionAt map a .kind) .direct ≡ true
       → (rightsOf (partitionAt map a .kind) .hardware && inDigest (partitionAt map a) a) ≡ false → storedDigest (partitionAt map a) c₀ ≡ 0
       → readyAct prims map m (Write a value)
       ≡ program (directRule (partitionAt map a) a) (firstWord (partitionAt map a) a) (storedWords prims map (m .lent .constants) a value) stay (say (Done 0) stay)
   unfolding readyAct commandAct writeAct
   write-decided c₀ m f a value below direct soft z =
-      if-false _ _ (ap not (f .awake)) ∙ if-false _ _ (lt-leb _ _ below) ∙ if-false _ _ (ap not direct) ∙ if-false _ _ soft
+      if-false _ _ (ap not (f .ready)) ∙ if-false _ _ (lt-leb _ _ below) ∙ if-false _ _ (ap not direct) ∙ if-false _ _ soft
       ∙ if-false _ _ (not-sensed c₀ m f a below direct z)
 
   -- and where no word refuses, it does
-  write-performed : (c₀ : List ℕ) (m : Machine) → Fresh map c₀ m → (a value : ℕ) → Allowed prims map (m .lent .constants) c₀ (m .lent .cells) a value
+  write-performed : (c₀ : List ℕ) (m : Machine) → Since prims map c₀ m → (a value : ℕ) → Allowed prims map (m .lent .constants) c₀ (m .lent .cells) a value
       → perform (readyAct prims map m (Write a value)) (m .lent .copy) (m .lent .cells)
       ≡ record {
         cells = programCells (directRule (partitionAt map a) a) (m .lent .cells) (firstWord (partitionAt map a) a) (storedWords prims map (m .lent .constants) a value);
@@ -114,7 +116,7 @@ module _ (prims : Primitives) (C : Cipher prims) (map : Map) (F : fit map ≡ tr
       ap (λ (x : Act). perform x (m .lent .copy) (m .lent .cells)) (write-decided c₀ m f a value (al .below) (al .direct) (al .notDigest) (al .unlocked))
       ∙ after-done _ _ (al .takes)
 
-  pub write-takes : (c₀ : List ℕ) (m : Machine) → Fresh map c₀ m → (a value : ℕ) → Allowed prims map (m .lent .constants) c₀ (m .lent .cells) a value
+  pub write-takes : (c₀ : List ℕ) (m : Machine) → Since prims map c₀ m → (a value : ℕ) → Allowed prims map (m .lent .constants) c₀ (m .lent .cells) a value
       → TakesEffect prims map m a value (step prims map (Write a value) m)
   unfolding act performed
   write-takes c₀ m f a value al =
@@ -229,20 +231,20 @@ module _ (prims : Primitives) (C : Cipher prims) (map : Map) (F : fit map ≡ tr
             plain q = unfold unscrambled in (if-false _ _ q)
 
         -- on a chip that is Ready since a power-up that found the partition open, a read answers 0 and the data used
-        read-act : (c₀ : List ℕ) → Fresh map c₀ m → storedDigest (partitionAt map a) c₀ ≡ 0
+        read-act : (c₀ : List ℕ) → Since prims map c₀ m → storedDigest (partitionAt map a) c₀ ≡ 0
             → (inDigest p b ≡ false → readLocked (m .session) (numberAt map b) ≡ false)
             → readyAct prims map m (Read b) ≡ say (Done (usedValue map a value)) stay
         unfolding readyAct commandAct readAct
         read-act c₀ f z k =
             let d′ : rightsOf (p .kind) .direct ≡ true = rw same-partition direct in
             let z′ : storedDigest p c₀ ≡ 0 = rw same-partition z in
-            if-false _ _ (ap not (f .awake)) ∙ if-false _ _ (lt-leb _ _ low) ∙ if-false _ _ (ap not d′)
+            if-false _ _ (ap not (f .ready)) ∙ if-false _ _ (lt-leb _ _ low) ∙ if-false _ _ (ap not d′)
             ∙ by-cases (inDigest p b)
             (λ t. if-true _ _ t ∙ ap (λ (x : ℕ). say (Done x) stay) (digest-is t))
             (λ t. if-false _ _ t ∙ if-false _ _ (and-false (rightsOf (p .kind) .lockable) (k t)) ∙ if-false _ _ (and-false (rightsOf (p .kind) .scrambled) (not-sensed c₀ m f b low d′ z′))
             ∙ ap (λ (x : ℕ). say (Done x) stay) data-is)
 
-        read-back : (c₀ : List ℕ) → Fresh map c₀ m → storedDigest (partitionAt map a) c₀ ≡ 0
+        read-back : (c₀ : List ℕ) → Since prims map c₀ m → storedDigest (partitionAt map a) c₀ ≡ 0
             → (inDigest p b ≡ false → readLocked (m .session) (numberAt map b) ≡ false)
             → answerTo prims map (Read b) m ≡ Done (usedValue map a value)
         unfolding act performed perform
@@ -293,14 +295,14 @@ module _ (prims : Primitives) (C : Cipher prims) (map : Map) (F : fit map ≡ tr
     abbrev c₀ : List ℕ
     c₀ = found m l₀ l₁ .lent .cells
 
-    fresh : Fresh map c₀ m₁
-    fresh = after-fresh prims map F c₀ l₁ (woken m l₀ l₁) (ready .lasts) (first-fresh prims map F (found m l₀ l₁) (after-right prims map l₀ m r) (ready .woke))
+    since : Since prims map c₀ m₁
+    since = after-since prims map F c₀ l₁ (woken m l₀ l₁) (ready .lasts) (first-since prims map F (found m l₀ l₁) (after-right prims map l₀ m r) (ready .woke))
 
     same-constants : m₁ .lent .constants ≡ m .lent .constants
     same-constants = after-constants prims map l₁ (woken m l₀ l₁) ∙ step-constants prims map PowerUp (found m l₀ l₁) ∙ after-constants prims map l₀ m
 
     pub write-taken : TakesEffect prims map m₁ a value s
-    write-taken = write-takes c₀ m₁ fresh a value (rw same-constants al)
+    write-taken = write-takes c₀ m₁ since a value (rw same-constants al)
 
     stored-number : granule (partitionAt map a) (s .result .machine .lent .cells) a ≡ numberOf (storedWords prims map (m .lent .constants) a value)
     unfolding granule
@@ -329,7 +331,7 @@ module _ (prims : Primitives) (C : Cipher prims) (map : Map) (F : fit map ≡ tr
           (λ b. after-held prims map F a (al .below) (al .direct) b l₂ (s .result .machine) (λ z. eqb-false _ _ t (sym stored-number ∙ z))))
 
       still-right : Right map m₂
-      still-right = after-right prims map l₂ (s .result .machine) (step-right prims map (Write a value) m₁ (fresh .right))
+      still-right = after-right prims map l₂ (s .result .machine) (step-right prims map (Write a value) m₁ (since .right))
 
       still-held : Stays → partAt (m₂ .lent .cells) (firstWord (partitionAt map a) a) (wordCount (partitionAt map a) a) ≡ storedWords prims map (m₂ .lent .constants) a value
       still-held stays =
@@ -342,7 +344,7 @@ module _ (prims : Primitives) (C : Cipher prims) (map : Map) (F : fit map ≡ tr
           → (inDigest (partitionAt map b) b ≡ false → readLocked (m₂ .session) (numberAt map b) ≡ false)
           → answerTo prims map (Read b) m₂ ≡ Done (usedValue map a value)
       reads-back spared lasts b low same =
-          let f = after-fresh prims map F c₀ l₂ (s .result .machine) lasts (step-fresh prims map F c₀ (Write a value) m₁ tt fresh) in
+          let f = after-since prims map F c₀ l₂ (s .result .machine) lasts (step-since prims map F c₀ (Write a value) m₁ tt since) in
           read-back a (al .below) (al .direct) (al .notDigest) b low same m₂ still-right value v (still-held (spared-stays spared)) c₀ f (al .unlocked)
 
       -- and ever after, every read of the granule that answers 0 answers the data used

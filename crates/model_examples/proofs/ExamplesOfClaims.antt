@@ -1,27 +1,21 @@
 -- Premises of the claims on transitions, digests, read locks, failed power-ups and lists are met: computed runs, and why the premises stand.
 use mathlib.Core.Path.{_≡_, refl}
-use mathlib.Core.Bool.{true, false}
 use mathlib.Core.List.{List, [], _∷_, _++_}
-use mathlib.Core.Option.{none}
-use Prim.Native.Nat.{ℕ, _+_, _<_}
+use Prim.Native.Nat.{_+_, _<_}
 use native.Mathlib.Omega.{arith}
 use lib.Dec.{ltb, lit<}
-use lib.ListN.{getD, replicate, set, List·getD-eq-default}
+use lib.ListN.{getD, set, List·getD-eq-default}
 use borrow.Author.Tests.{ltb-true, ltb-false}
 use Rattle.basics.proofs.Choice.{by-cases}
 use Rattle.basics.proofs.Range.{all-at}
 use Rattle.words.specs.declared.Rule.the-variants.{KeepBits}
 use Rattle.partitions.specs.Map1.{map1}
 use Rattle.partitions.proofs.Maps.{map1-fit}
-use Rattle.life_cycle.specs.declared.LifeCycle.the-variants.{Valid}
 use Rattle.model.specs.declared.Phase.the-variants.{Ready}
-use Rattle.model.specs.declared.Answer.{Answer}
-use Rattle.model.specs.declared.Answer.the-variants.{Done, NotBlank, Denied, DigestFailed, NotReady, LifeCycleFailed}
-use Rattle.model.specs.declared.Command.{Command}
-use Rattle.model.specs.declared.Command.the-variants.{Read, Write, FrontRead, Digest, ReadLock, Transition, PowerUp}
+use Rattle.model.specs.declared.Answer.the-variants.{Done, Denied, DigestFailed}
+use Rattle.model.specs.declared.Command.the-variants.{Read, Write, Digest, ReadLock, Transition, PowerUp}
 use Rattle.model.specs.Answers.{codeOf}
 use Rattle.model.specs.Lent.{Machine, Primitives}
-use Rattle.model.specs.PowerUp.{lifeCycleIn}
 use Rattle.model.specs.Step.{after, answers, machineAfter, answerTo}
 use Rattle.model.specs.Cases.{blank}
 use Rattle.model.specs.Session.{noDigests, noLocks}
@@ -34,7 +28,7 @@ use Rattle.model.specs.Claims.FailedPowerUps.{WrittenAfterDigest, Scrapped}
 use Rattle.model.specs.Claims.Sensing.{Since}
 use Rattle.model.specs.Claims.All.{Claims}
 use Rattle.model.proofs.Everything.{everything}
-use Rattle.model.proofs.ToyChip.{toyWith, toy, off, ready, tested}
+use Rattle.model.proofs.ToyChip.{toyWith, toy, off, ready}
 use Rattle.model.proofs.Theorems.{claims}
 use Rattle.model_examples.proofs.Examples.{toy-cipher, toy-claims, right}
 

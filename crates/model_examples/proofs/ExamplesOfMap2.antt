@@ -25,13 +25,13 @@ use Rattle.model.specs.Commands.{directRule, granule}
 use Rattle.model.specs.Step.{step, after, answers, machineAfter, answerTo}
 use Rattle.model.specs.CaseTables.{arrayWith, offChip}
 use Rattle.model.specs.Claims.Terms.{Right, Lasts, Spared, usedValue, Allowed, TakesEffect}
-use Rattle.model.specs.Claims.Demand3 as demand
 use Rattle.model.specs.Claims.OldRule.{InAuthState, twoWords, Gains}
 use Rattle.model.specs.Claims.All.{Claims}
 use Rattle.model.proofs.Everything.{everything}
 use Rattle.model.proofs.ToyChip.{toy}
 use Rattle.model.proofs.Theorems.{claims}
 use Rattle.model_examples.proofs.Examples.{toy-cipher, toy-digest}
+use Rattle.model.specs.Claims.Demand3 as demand
 
 -- the chip with these cells, switched off
 abbrev off-map2 : List ℕ → Machine

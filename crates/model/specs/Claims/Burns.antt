@@ -8,13 +8,10 @@ use mathlib.Core.Logic.{_↔_}
 use lib.ListN.{length, getD}
 use Rattle.words.specs.declared.Rule.{Rule}
 use Rattle.words.specs.declared.Rule.the-variants.{KeepBits, BlankOnly}
-use Rattle.words.specs.declared.Programmed.the-variants as programmed
 use Rattle.words.specs.Words.{numberOf, wordsOf, partAt}
 use Rattle.words.specs.Programming.{programAnswer, Lowest}
-use Rattle.partitions.specs.declared.Kind.the-variants as kind
 use Rattle.partitions.specs.Map.{Map, rightsOf, numberAt, partitionAt, limit, inDigest, firstWord, wordCount}
 use Rattle.life_cycle.specs.Words.{counterWords, stateWords}
-use Rattle.model.specs.declared.Phase.the-variants as phase
 use Rattle.model.specs.declared.Answer.the-variants.{Done, NotBlank, Denied}
 use Rattle.model.specs.declared.Command.{Command}
 use Rattle.model.specs.declared.Command.the-variants.{Read, Write, Digest, Transition, PowerUp}
@@ -25,6 +22,9 @@ use Rattle.model.specs.Commands.{directRule, digestRule, lifeCycleRule, 
 use Rattle.model.specs.Step.{step, after, machineAfter, answerTo}
 use Rattle.model.specs.Claims.Terms.{Right, Says, storedWords, Spared, Allowed, usedValue}
 use Rattle.model.specs.Claims.Demand3.{Ready}
+use Rattle.words.specs.declared.Programmed.the-variants as programmed
+use Rattle.partitions.specs.declared.Kind.the-variants as kind
+use Rattle.model.specs.declared.Phase.the-variants as phase
 
 module _ (prims : Primitives) (map : Map) where
   -- what a command is to program: by which rule, from which word on, and the words. A write and a digest command have a target granule; a transition

@@ -4,7 +4,6 @@ use mathlib.Core.Path.{_≡_}
 use mathlib.Core.Bool.{true, false}
 use mathlib.Core.List.{List, [], _∷_, _++_}
 use mathlib.Core.Logic.{_↔_}
-use Rattle.words.specs.declared.Programmed.the-variants as programmed
 use Rattle.words.specs.Words.{wordsOf}
 use Rattle.words.specs.Programming.{programAnswer}
 use Rattle.partitions.specs.Map.{Map, rightsOf, numberAt, partition, partitionAt, limit, inDigest}
@@ -19,6 +18,7 @@ use Rattle.model.specs.Commands.{digestRule, storedDigest, computedDiges
 use Rattle.model.specs.PowerUp.{digestHolds}
 use Rattle.model.specs.Step.{after, machineAfter, answerTo}
 use Rattle.model.specs.Claims.Terms.{Right, CellsFit, Put, Digested}
+use Rattle.words.specs.declared.Programmed.the-variants as programmed
 
 -- the command puts a number of 64 bits in the digest of partition n, whole: a write of it there, or a digest command that answers it; and it answers 0
 pub data Puts (map : Map) (n digest : ℕ) : Command → Answer → Type 0 where

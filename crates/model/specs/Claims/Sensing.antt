@@ -7,10 +7,8 @@ use mathlib.Core.Option.{none}
 use lib.Dec.{eqb}
 use Rattle.basics.specs.Choice.{if_then_else_}
 use Rattle.basics.specs.Range.{listed}
-use Rattle.partitions.specs.declared.Kind.the-variants as kind
 use Rattle.partitions.specs.Map.{Map, rightsOf, numberAt, partition, partitionAt, limit, numberOfKind}
 use Rattle.life_cycle.specs.declared.LifeCycle.the-variants.{Valid}
-use Rattle.model.specs.declared.Reason.the-variants as reason
 use Rattle.model.specs.declared.Phase.the-variants.{Dead}
 use Rattle.model.specs.declared.Answer.the-variants.{Done}
 use Rattle.model.specs.declared.Command.{Command}
@@ -22,6 +20,8 @@ use Rattle.model.specs.Commands.{granule, storedDigest}
 use Rattle.model.specs.PowerUp.{digests, firstFailing, lifeCycleIn, copyWord}
 use Rattle.model.specs.Step.{after, machineAfter, answerTo}
 use Rattle.model.specs.Claims.Terms.{Right, Digested, SamePartition, quiet, NoPowerUp}
+use Rattle.partitions.specs.declared.Kind.the-variants as kind
+use Rattle.model.specs.declared.Reason.the-variants as reason
 
 abbrev pub Quiet : List Command → Type 0
 Quiet [] = Unit {0}
@@ -31,6 +31,7 @@ module _ (prims : Primitives) (map : Map) where
   -- what holds of a Ready chip whose last power-up found the cells c₀
   pub record Since (c₀ : List ℕ) (m : Machine) : Type 0 where
     pub right : Right map m
+    pub ready : isReady (m .session .phase) ≡ true
     -- every nonzero stored digest was the one recomputed
     pub checked : firstFailing prims (m .lent .constants) c₀ 0 map ≡ none
     -- "sensed digests of 0 to 5 are the stored ones; the copy holds 2 to 6, secret data unscrambled": both as found then

@@ -5,7 +5,6 @@ use mathlib.Core.Bool.{true, false, _&&_}
 use mathlib.Core.List.{List, [], _∷_}
 use lib.ListN.{length, getD}
 use Rattle.words.specs.declared.Rule.{Rule}
-use Rattle.words.specs.declared.Programmed.the-variants as programmed
 use Rattle.words.specs.Words.{numberOf, wordsOf, partAt}
 use Rattle.words.specs.Programming.{programAnswer}
 use Rattle.partitions.specs.Map.{Map, rightsOf, numberAt, partition, partitionAt, limit, inDigest, firstWord, wordCount}
@@ -18,6 +17,7 @@ use Rattle.model.specs.Answers.{codeOf, valueOf}
 use Rattle.model.specs.Lent.{Machine, Primitives, rightLengths}
 use Rattle.model.specs.Commands.{directRule, scrambled, storedDigest}
 use Rattle.model.specs.Step.{Step, step, machineAfter, answerTo}
+use Rattle.words.specs.declared.Programmed.the-variants as programmed
 
 -- lent lengths right, constants valid and words of 16 bits; cells, copy and record are free
 pub record Right (map : Map) (m : Machine) : Type 0 where

@@ -7,7 +7,6 @@ use mathlib.Core.Logic.{_↔_}
 use mathlib.Core.Option.{none}
 use lib.Dec.{eqb}
 use Rattle.basics.specs.Choice.{if_then_else_}
-use Rattle.words.specs.declared.Programmed.the-variants as programmed
 use Rattle.words.specs.Words.{numberOf, partAt}
 use Rattle.words.specs.Programming.{programAnswer}
 use Rattle.partitions.specs.Map.{Map, partition, numberOfKind}
@@ -17,7 +16,6 @@ use Rattle.life_cycle.specs.declared.LifeCycle.{LifeCycle}
 use Rattle.life_cycle.specs.declared.LifeCycle.the-variants.{Valid}
 use Rattle.life_cycle.specs.declared.Token.{Token}
 use Rattle.life_cycle.specs.declared.Token.the-variants.{Nothing, RawUnlock, TestUnlock, TestExit, Rma}
-use Rattle.life_cycle.specs.declared.Entry.the-variants as entry
 use Rattle.life_cycle.specs.Words.{counterWords, stateWords}
 use Rattle.life_cycle.specs.Transitions.{transition}
 use Rattle.life_cycle.specs.Constants.{validConstants}
@@ -31,6 +29,8 @@ use Rattle.model.specs.PowerUp.{verdictOf, lifeCycleIn}
 use Rattle.model.specs.Step.{after, machineAfter, answerTo}
 use Rattle.model.specs.Claims.Terms.{Right, Says, Put, NoPowerUp}
 use Rattle.model.specs.Claims.Refusals.{early}
+use Rattle.words.specs.declared.Programmed.the-variants as programmed
+use Rattle.life_cycle.specs.declared.Entry.the-variants as entry
 
 -- the codes after the stroke, with no move: "then 0x21; 0x22; 0x23"
 unfoldable pub strokeOnly : ℕ → Bool

@@ -1,45 +1,29 @@
--- What power-up senses. The idea: it reads cells and constants alone, and a front read shows the copy, which is as it was latched.
-use mathlib.Core.Path.{_≡_, refl, sym, ap, ap₂, _∙_}
+-- Power-ups: what they depend on, twice in a row, and where they fail. The idea: a power-up reads cells and constants alone.
+use mathlib.Core.Path.{_≡_, refl, ap, ap₂, _∙_}
 use mathlib.Core.Option.{Option, none, some}
 use mathlib.Core.Bool.{true, not}
-use mathlib.Core.List.{List, [], _∷_, _++_}
-use Prim.Native.Nat.{ℕ, _+_, _*_, _/_, _≤_, _<_}
-use native.Mathlib.Omega.{arith}
+use mathlib.Core.List.{List}
+use Prim.Native.Nat.{ℕ, _/_}
 use lib.Dec.{eqb}
-use lib.ListN.{getD}
 use borrow.Author.Tests.{not-false}
 use Rattle.basics.specs.Choice.{if_then_else_}
 use Rattle.basics.specs.Range.{listed}
-use Rattle.basics.proofs.Choice.{by-cases, if-both, if-true, if-false, true-not-false}
-use Rattle.basics.proofs.Range.{listed-at}
-use Rattle.words.specs.Words.{numberOf}
-use Rattle.words.proofs.Parts.{part-same}
-use Rattle.partitions.specs.Map.{Map, rightsOf, numberAt, partition, partitionAt, limit, firstWord, wordCount}
-use Rattle.partitions.specs.Fitness.{fit}
-use Rattle.partitions.proofs.Map.{inside, partition-at, end-within}
-use Rattle.partitions.proofs.Granules.{word-inside, word-number}
+use Rattle.basics.proofs.Choice.{by-cases, if-both, if-true, if-false}
+use Rattle.partitions.specs.Map.{Map, limit}
 use Rattle.life_cycle.specs.Constants.{validConstants}
 use Rattle.life_cycle.specs.declared.LifeCycle.{LifeCycle}
 use Rattle.life_cycle.specs.declared.LifeCycle.the-variants.{Valid, Invalid}
-use Rattle.model.specs.declared.Reason.the-variants as reason
 use Rattle.model.specs.declared.Phase.the-variants.{Dead}
 use Rattle.model.specs.Answers.{codeOf}
 use Rattle.model.specs.Session.{noDigests, noLocks}
 use Rattle.model.specs.declared.Session.{Session}
-use Rattle.model.specs.declared.Answer.{Answer}
-use Rattle.model.specs.declared.Answer.the-variants.{Done}
-use Rattle.model.specs.declared.Command.{Command}
-use Rattle.model.specs.declared.Command.the-variants.{FrontRead, PowerUp}
+use Rattle.model.specs.declared.Command.the-variants.{PowerUp}
 use Rattle.model.specs.Lent.{Lent, Machine, Primitives, rightLengths}
-use Rattle.model.specs.Commands.{granule}
-use Rattle.model.specs.PowerUp.{Waking, fails, wakes, copyWord, verdictOf, lifeCycleIn, lifeCycleWaking, wakingOf, waking, wokenCopy, wokenSession, wokenAnswer}
-use Rattle.model.specs.Step.{Step, performed, unchanged, act, powerUp, obey, step, after, machineAfter, answerTo}
-use Rattle.model.specs.Claims.Terms.{Right, NoPowerUp}
-use Rattle.model.specs.Claims.Sensing.{Since}
-use Rattle.model.proofs.Steps.{outcome, step-obeys, step-up, judged-obeys, obey-lengths, obey-constants, after-right, poweredUp}
-use Rattle.model.proofs.Chips.{front-latched}
-use Rattle.model.proofs.Device.{Seen, front-seen}
-use Rattle.model.proofs.Since.{since-held}
+use Rattle.model.specs.PowerUp.{Waking, fails, wakes, verdictOf, lifeCycleIn, lifeCycleWaking, wakingOf, waking, wokenCopy, wokenSession, wokenAnswer}
+use Rattle.model.specs.Step.{Step, unchanged, powerUp, obey, step, machineAfter, answerTo}
+use Rattle.model.specs.Claims.Terms.{Right}
+use Rattle.model.proofs.Steps.{step-up, judged-obeys, obey-lengths, poweredUp}
+use Rattle.model.specs.declared.Reason.the-variants as reason
 
 module _ (prims : Primitives) (map : Map) where
   -- what is lent, by its parts
@@ -106,38 +90,6 @@ module _ (prims : Primitives) (map : Map) where
       λ e. if-both Again (not (validConstants (m .lent .constants))) _ _
       (λ v. (let q = if-false _ _ e ∙ if-true _ _ v in (ap (λ (s : Step). s .result .machine) q, ap (λ (s : Step). s .result .answer) q)))
       λ v. up-again m (not-false _ e) (not-false _ v)
-
-  -- ---- front reads
-
-  module _ (F : fit map ≡ true) where
-    seen-latched : (c₀ : List ℕ) (m : Machine) → Since prims map c₀ m → (a value : ℕ) → Seen prims map m a value → value ≡ granule (partitionAt map a) c₀ a
-    unfolding granule
-    seen-latched c₀ m s a value seen =
-        seen .shown ∙ ap numberOf (part-same (m .lent .copy) c₀ _ _ (λ j from upto. word j from upto))
-      where
-        word : (j : ℕ) → firstWord (partitionAt map a) a ≤ j → j < firstWord (partitionAt map a) a + wordCount (partitionAt map a) a → getD (m .lent .copy) j 0 ≡ getD c₀ j 0
-        word j from upto =
-            let n = word-number map F (seen .below) from upto in
-            let p = partition-at map (2 * j) n in
-            let i = inside map F (seen .below) in
-            let top : partitionAt map a .end ≤ limit map = unfold partitionAt in (end-within map F (i .known)) in
-            let low : j < limit map / 2 = omega (arith, word-inside map F (seen .below) from upto .below, top, i .fits .end-aligned) in
-            ap (λ (k : List ℕ). getD k j 0) (s .copy)
-            ∙ listed-at (copyWord prims map (m .lent .constants) c₀) 0 (limit map / 2) j low
-            ∙ front-latched prims map (m .lent .constants) c₀ j (rw p (unfold partitionAt in (seen .front)))
-
-    read-seen : (m : Machine) → Right map m → (a value : ℕ) → answerTo prims map (FrontRead a) m ≡ Done value → Seen prims map m a value
-    unfolding obey act performed
-    read-seen m r a value = rw (step-obeys prims map (FrontRead a) m r, answerTo) (front-seen prims map m a value)
-
-    pub fronts : (m : Machine) → Right map m → (l₀ l₁ : List Command) → NoPowerUp l₁ → (a value : ℕ)
-        → answerTo prims map (FrontRead a) (after prims map (l₀ ++ PowerUp ∷ l₁) m) ≡ Done value
-        → value ≡ granule (partitionAt map a) (after prims map l₀ m .lent .cells) a
-    fronts m r l₀ l₁ u a value e =
-        let m₁ = after prims map (l₀ ++ PowerUp ∷ l₁) m in
-        let h = since-held prims map F m r l₀ l₁ u in
-        let seen = read-seen m₁ (h .right) a value e in
-        seen-latched (after prims map l₀ m .lent .cells) m₁ (h .holds (seen .awake)) a value seen
 
 -- ---- a power-up that fails
 
