@@ -26,8 +26,8 @@ def cases(m):
     yield "a wrong token", UP + move(1, RAW_TOKEN ^ 1) + UP, lines((7, 0, 0), (6, 0x23, 0), (7, 0, 256)), m.blank
     yield "RAW to DEV", UP + move(16, RAW_TOKEN) + UP, lines((7, 0, 0), (6, 0x21, 0), (7, 0, 256)), m.blank
     yield "24 strokes used", UP + move(20) + UP, lines((7, 0, 6144), (6, 0x20, 0), (7, 0, 6144)), m.life(24, state(0))
-    yield ("a token's partition that is open", UP + move(1, RAW_TOKEN) + UP + move(2) + UP + move(3),
-           lines((7, 0, 0), (6, 0, 0), (7, 0, 257), (6, 0, 0), (7, 0, 514), (6, 0x22, 0)), m.blank)
+    yield ("a token's partition that is open", UP + move(1, RAW_TOKEN) + UP + move(2) + UP + move(3) + UP,
+           lines((7, 0, 0), (6, 0, 0), (7, 0, 257), (6, 0, 0), (7, 0, 514), (6, 0x22, 0), (7, 0, 770)), m.blank)
     yield ("DEVICE_ID: the front read is old until a power-up", UP + write(device, 0x99) + front(device) + read(device) + UP + front(device) + read(device),
            lines((7, 0, 0), (2, 0, 0), (3, 0, 0), (1, 0, 0x99), (7, 0, 0), (3, 0, 0x99), (1, 0, 0x99)), m.blank)
 

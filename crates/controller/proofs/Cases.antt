@@ -1,6 +1,4 @@
--- The tables of cases hold of the chip, whatever its keys and digest constants: a digest is a number of 64 bits, and a hash one of 128. That the wrong token
--- of case 10 has another hash than the right one is asked: the checker can't compute a hash in a bearable time.
-use mathlib.Core.Path.{_≡_}
+-- The tables of cases hold of the chip, whatever its keys and digest constants: a digest is a number of 64 bits, and a hash one of 128.
 use Prim.Native.Nat.{ℕ, _^_, _<_}
 use lib.Dec.{lit<}
 use Rattle.basics.specs.Range.{listed}
@@ -8,7 +6,6 @@ use Rattle.words.specs.Words.{partAt}
 use Rattle.words.proofs.Words.{number-lt}
 use Rattle.words.proofs.Parts.{listed-words}
 use Rattle.digest.proofs.Fits.{digest-lt}
-use Rattle.token_hash.specs.TokenHash.{tokenHash}
 use Rattle.token_hash.proofs.Fits.{hash-lt}
 use Rattle.model.specs.Lent.{digestStart, digestFinal}
 use Rattle.model.specs.Cases.{table, tableElsewhere, Hold, blankDigest}
@@ -30,11 +27,11 @@ blank-digest-lt keys h n =
 pub chip-cases-elsewhere : (keys : ℕ → ℕ) → Hold primitives keys tableElsewhere
 chip-cases-elsewhere = cases-elsewhere primitives
 
-module _ (keys : ℕ → ℕ) (h : (i : ℕ) → keys i < 65536) (other : tokenHash 8 ≡ tokenHash 7 → ⊥) where
+module _ (keys : ℕ → ℕ) (h : (i : ℕ) → keys i < 65536) where
   pub chip-cases : Hold primitives keys (table (blankDigest primitives keys))
   unfolding listed
-  chip-cases = cases primitives keys (blank-digest-lt keys h 36) (hash-lt 7) other
+  chip-cases = cases primitives keys (blank-digest-lt keys h 36) (hash-lt 7)
 
   pub chip-cases-of-map2 : HoldOnMap2 primitives keys (tableOfMap2 (blankHwCfg1Digest primitives keys))
   unfolding listed
-  chip-cases-of-map2 = cases-of-map2 primitives keys (blank-digest-lt keys h 4) (hash-lt 7) other
+  chip-cases-of-map2 = cases-of-map2 primitives keys (blank-digest-lt keys h 4) (hash-lt 7)

@@ -3,8 +3,11 @@
 use mathlib.Core.Path.{_≡_, refl, sym, ap, subst, _∙_}
 use mathlib.Core.Bool.{Bool, true, false}
 use mathlib.Core.List.{List, [], _∷_, _++_, map}
-use Prim.Native.Nat.{ℕ, _+_, _^_, _<_}
-use native.Mathlib.Nat.{mod-eq-of-lt}
+use Prim.Native.Nat.{ℕ, zero, suc, _+_, _*_, _%_, _^_, _<_}
+use native.Mathlib.Nat.{mod-eq-of-lt, mod-lt}
+use native.Mathlib.Omega.{arith}
+use lib.Bits.{bitXor, xor-lt, xor-mod}
+use lib.Dec.{lit<}
 use borrow.Author.Tests.{eq-eqb, ne-eqb}
 use Rattle.basics.specs.Choice.{if_then_else_}
 use Rattle.words.specs.Programming.{programCells}
@@ -19,7 +22,7 @@ use Rattle.model.specs.Lent.{Machine, Primitives, rightLengths, rawUnloc
 use Rattle.model.specs.Acts.{halt, say, perform, noting}
 use Rattle.model.specs.Commands.{lifeCycleRule, counterAt, hashesTo, moveAct}
 use Rattle.model.specs.Step.{Step, performed, obey}
-use Rattle.model.specs.CaseTables.{Case, blankArray, constants, said, leaves, offChip, HoldOn}
+use Rattle.model.specs.CaseTables.{Case, asIs, lowestBitChanged, blankArray, constantsWith, said, leaves, chipWith, HoldOn}
 use Rattle.model.proofs.Obeyed.{obeyed, obeyedAnswers, run-obeyed}
 use Rattle.model.proofs.Everything.{everything}
 
@@ -27,28 +30,42 @@ infixr 3 _&_
 pub _&_ : {A B : Type 0} → A → B → A × B
 a & b = (a, b)
 
+-- a number differs from itself with its lowest bit changed
+bit-differs : (n : ℕ) → bitXor n 1 ≡ n → ⊥
+bit-differs n e = by-bit (n % 2) (sym (ap (λ (k : ℕ). k % 2) e) ∙ xor-mod n 1 1) (mod-lt n {m = 2} (omega arith))
+  where
+    by-bit : (b : ℕ) → b ≡ bitXor b 1 → b < 2 → ⊥
+    by-bit zero q h = omega (arith, q)
+    by-bit (suc zero) q h = omega (arith, q)
+    by-bit (suc (suc b)) q h = omega arith
+
 module _ (prims : Primitives) (keys : ℕ → ℕ) where
-  valid : validConstants (constants prims keys) ≡ true
+  valid : (stored : ℕ → ℕ) → validConstants (constantsWith prims keys stored) ≡ true
   unfolding everything
-  valid = refl
+  valid stored = refl
 
-  -- whether a token's hash is the RAW_UNLOCK constant
-  abbrev pub same : ℕ → Bool
-  same given = hashesTo prims given (rawUnlockHash (constants prims keys))
+  -- whether the hash of the token 7 is what the RAW_UNLOCK words hold
+  abbrev pub same : (ℕ → ℕ) → Bool
+  same stored = hashesTo prims (0 * 2 ^ 64 + 7) (rawUnlockHash (constantsWith prims keys stored))
 
-  pub right-same : prims .hash 7 < 2 ^ 128 → same 7 ≡ true
+  -- words of a number of 128 bits stand for it
+  stored-number : (stored : ℕ → ℕ) → stored (prims .hash 7) < 2 ^ 128 → rawUnlockHash (constantsWith prims keys stored) ≡ stored (prims .hash 7)
   unfolding everything
-  right-same h = eq-eqb _ _ (number-words 8 (prims .hash 7) ∙ mod-eq-of-lt h)
+  stored-number stored h = number-words 8 (stored (prims .hash 7)) ∙ mod-eq-of-lt h
 
-  pub wrong-differs : prims .hash 7 < 2 ^ 128 → (prims .hash 8 ≡ prims .hash 7 → ⊥) → same 8 ≡ false
-  unfolding everything
-  wrong-differs h d = ne-eqb _ _ (λ e. d (sym e ∙ number-words 8 (prims .hash 7) ∙ mod-eq-of-lt h))
+  pub right-same : prims .hash 7 < 2 ^ 128 → same asIs ≡ true
+  unfolding hashesTo
+  right-same h = eq-eqb _ _ (stored-number asIs h)
+
+  pub wrong-differs : prims .hash 7 < 2 ^ 128 → same lowestBitChanged ≡ false
+  unfolding hashesTo
+  wrong-differs h = ne-eqb _ _ (λ e. bit-differs (prims .hash 7) (sym (stored-number lowestBitChanged (xor-lt 128 (prims .hash 7) 1 h (lit< tt))) ∙ e))
 
   module _ (partitions : Map) (size : ℕ) where
     -- what is computed of a case: its lengths are right, and its commands, obeyed, answer and leave what it says
     abbrev pub Row : Case → Type 0
     Row c =
-        let m = offChip prims keys size (c .cells) in
+        let m = chipWith prims keys (c .stored) size (c .cells) in
         (rightLengths partitions (m .lent) ≡ true)
         × (map (said prims keys) (obeyedAnswers prims partitions (c .commands) m) ≡ c .expected)
         × leaves prims keys (c .left) (obeyed prims partitions (c .commands) m .lent .cells)
@@ -71,24 +88,25 @@ module _ (prims : Primitives) (keys : ℕ → ℕ) where
     pub held : (cs : List Case) → Rows cs → HoldOn prims keys partitions size cs
     held [] h = tt
     held (c ∷ cs) h =
-        let m = offChip prims keys size (c .cells) in
+        let m = chipWith prims keys (c .stored) size (c .cells) in
         let r = h .0 in
-        let q = run-obeyed prims partitions (c .commands) m (r .0) valid in
+        let q = run-obeyed prims partitions (c .commands) m (r .0) (valid (c .stored)) in
         let cells = ap (λ (n : Machine). n .lent .cells) (q .1) in
         ((ap (map (said prims keys)) (q .0) ∙ r .1, subst (leaves prims keys (c .left)) (sym cells) (r .2)), held cs (h .1))
 
     -- ---- cases with a RAW_UNLOCK token: its hash is a variable, so that the comparison does not compute. The rows are computed for the result that it has.
 
     -- the blank chip after a power-up, and a transition from RAW to TEST_UNLOCKED0 there, with the result of its comparison
-    abbrev pub woken : Machine
-    woken = obey prims partitions PowerUp (offChip prims keys size (blankArray size)) .result .machine
+    module _ (stored : ℕ → ℕ) where
+      abbrev pub woken : Machine
+      woken = obey prims partitions PowerUp (chipWith prims keys stored size (blankArray size)) .result .machine
 
-    abbrev pub unlocking : Bool → Step
-    unlocking result =
-        let cells = programCells lifeCycleRule (woken .lent .cells) (counterAt partitions) (counterWords (woken .lent .constants) 1) in
-        let copy = woken .lent .copy in
-        performed
-        (noting result (if result then perform (moveAct prims partitions woken 1) copy cells else perform (say TokenDiffers halt) copy cells)) woken
+      abbrev pub unlocking : Bool → Step
+      unlocking result =
+          let cells = programCells lifeCycleRule (woken .lent .cells) (counterAt partitions) (counterWords (woken .lent .constants) 1) in
+          let copy = woken .lent .copy in
+          performed
+          (noting result (if result then perform (moveAct prims partitions woken 1) copy cells else perform (say TokenDiffers halt) copy cells)) woken
 
     -- its answers, with those of the commands after it
     abbrev pub unlocked : List Command → Step → List (ℕ × ℕ)

@@ -8,7 +8,7 @@ use Rattle.partitions.specs.Map1.{map1}
 use Rattle.model.specs.declared.Command.the-variants.{Read, Write, FrontRead, Digest, ReadLock, Transition, PowerUp}
 use Rattle.model.specs.Lent.{Primitives}
 use Rattle.model.specs.Step.{obey}
-use Rattle.model.specs.CaseTables.{Case, off, bothSides, secondBurn, whichWord}
+use Rattle.model.specs.CaseTables.{Case, asIs, lowestBitChanged, off, bothSides, secondBurn, whichWord}
 use Rattle.model.specs.Cases.{paper, hardware, lockedFirst, table, Hold, blankDigest}
 use Rattle.model.proofs.CaseTables.{_&_, same, right-same, wrong-differs, Part, both, held, woken, unlocking, unlocked}
 use Rattle.model.proofs.Everything.{everything}
@@ -18,22 +18,22 @@ module _ (prims : Primitives) (keys : ℕ → ℕ) where
   _and_ : {xs ys : List Case} → Part prims keys map1 448 xs → Part prims keys map1 448 ys → Part prims keys map1 448 (xs ++ ys)
   h and k = both prims keys map1 448 h k
 
-  transition-is : (low : ℕ) (result : Bool) → same prims keys (0 * 2 ^ 64 + low) ≡ result
-      → obey prims map1 (Transition 1 0 low) (woken prims keys map1 448) ≡ unlocking prims keys map1 448 result
+  transition-is : (stored : ℕ → ℕ) (result : Bool) → same prims keys stored ≡ result
+      → obey prims map1 (Transition 1 0 7) (woken prims keys map1 448 stored) ≡ unlocking prims keys map1 448 stored result
   unfolding everything
-  transition-is low result e = ap (unlocking prims keys map1 448) e
+  transition-is stored result e = ap (unlocking prims keys map1 448 stored) e
 
-  paper-rows : prims .hash 7 < 2 ^ 128 → (prims .hash 8 ≡ prims .hash 7 → ⊥) → Part prims keys map1 448 paper
+  paper-rows : prims .hash 7 < 2 ^ 128 → Part prims keys map1 448 paper
   unfolding everything
-  paper-rows h d =
-      let right = transition-is 7 true (right-same prims keys h) in
-      let wrong = transition-is 8 false (wrong-differs prims keys h d) in
+  paper-rows h =
+      let right = transition-is asIs true (right-same prims keys h) in
+      let wrong = transition-is lowestBitChanged false (wrong-differs prims keys h) in
       record {
         rows =
             (refl, refl, tt) & (refl, refl, tt) & (refl, refl, tt) & (refl, refl, tt) & (refl, refl, tt) & (refl, refl, tt) & (refl, refl, tt) & (refl, refl, tt)
             & (refl, ap (unlocked prims keys map1 448 (Read 0 ∷ Write 0 0 ∷ FrontRead 0x200 ∷ Digest 0x200 ∷ ReadLock 0 ∷ Transition 1 0 7 ∷ PowerUp ∷ [])) right, tt)
             & (refl, ap (unlocked prims keys map1 448 (PowerUp ∷ [])) wrong, tt) & (refl, refl, tt) & (refl, refl, refl)
-            & (refl, ap (unlocked prims keys map1 448 (PowerUp ∷ Transition 2 0 0 ∷ PowerUp ∷ Transition 3 0 0 ∷ [])) right, tt) & (refl, refl, tt) & tt;
+            & (refl, ap (unlocked prims keys map1 448 (PowerUp ∷ Transition 2 0 0 ∷ PowerUp ∷ Transition 3 0 0 ∷ PowerUp ∷ [])) right, tt) & (refl, refl, tt) & tt;
       }
 
   creator-rows : Part prims keys map1 448 (bothSides 448 0x000)
@@ -63,9 +63,9 @@ module _ (prims : Primitives) (keys : ℕ → ℕ) where
   unfolding everything
   locked-first = record { rows = (refl, refl, tt) & (refl, refl, tt) & tt }
 
-  -- the digest is a number of 64 bits, the hash of the right token one of 128 bits, and the wrong token has another
-  pub cases : blankDigest prims keys < 2 ^ 64 → prims .hash 7 < 2 ^ 128 → (prims .hash 8 ≡ prims .hash 7 → ⊥) → Hold prims keys (table (blankDigest prims keys))
+  -- the digest is a number of 64 bits, and the hash of the token one of 128
+  pub cases : blankDigest prims keys < 2 ^ 64 → prims .hash 7 < 2 ^ 128 → Hold prims keys (table (blankDigest prims keys))
   unfolding table
-  cases h small other =
+  cases h small =
       held prims keys map1 448 (table (blankDigest prims keys))
-      ((paper-rows small other and creator-rows and hardware-rows h and creator-once and first-named and locked-first) .rows)
+      ((paper-rows small and creator-rows and hardware-rows h and creator-once and first-named and locked-first) .rows)

@@ -1,13 +1,13 @@
 -- The 14 cases of document 01, read with the hashing of request Four, and those of requests Two, Three and Five in one table, over Map 1.
 use Prim.Native.Nat.{ℕ}
 use mathlib.Core.List.{List, [], _∷_, _++_}
-use mathlib.Core.Option.{some}
+use mathlib.Core.Option.{none, some}
 use lib.ListN.{replicate}
 use Rattle.partitions.specs.Map1.{map1}
 use Rattle.model.specs.declared.Command.{Command}
 use Rattle.model.specs.declared.Command.the-variants.{Read, Write, FrontRead, Digest, ReadLock, Transition, PowerUp}
 use Rattle.model.specs.Lent.{Machine, Primitives, digestStart, digestFinal}
-use Rattle.model.specs.CaseTables.{Case, blankArray, onBlank, off, bothSides, secondBurn, whichWord, constants, offChip, HoldOn}
+use Rattle.model.specs.CaseTables.{Case, asIs, lowestBitChanged, blankArray, onBlank, off, bothSides, secondBurn, whichWord, constants, offChip, HoldOn}
 
 -- 448 words
 abbrev pub blank : List ℕ
@@ -20,8 +20,8 @@ case = onBlank 448
 abbrev pub spent : List ℕ
 spent = replicate 404 0 ++ replicate 24 3 ++ replicate 20 0
 
--- The cases of document 01, case 7 as request Two has it, case 4 as requests Three and Five have it. Tokens are raw: the right RAW_UNLOCK token is 7, a
--- wrong one is 8.
+-- The cases of document 01, case 7 as request Two has it, case 4 as requests Three and Five have it. Tokens are raw, and 7 is given: it is the right RAW_UNLOCK
+-- token, but in case 10, where one bit of the stored hash is another.
 abbrev pub paper : List Case
 paper =
     -- 1. Blank power-up: 0, value 0.
@@ -45,14 +45,20 @@ paper =
     ∷ case (PowerUp ∷ Transition 1 0 7 ∷ Read 0 ∷ Write 0 0 ∷ FrontRead 0x200 ∷ Digest 0x200 ∷ ReadLock 0 ∷ Transition 1 0 7 ∷ PowerUp ∷ [])
     ((0x00, 0) ∷ (0x00, 0) ∷ (0x07, 0) ∷ (0x07, 0) ∷ (0x07, 0) ∷ (0x07, 0) ∷ (0x07, 0) ∷ (0x07, 0) ∷ (0x00, 257) ∷ [])
     -- 10. Wrong token: 0x23; power-up 256.
-    ∷ case (PowerUp ∷ Transition 1 0 8 ∷ PowerUp ∷ []) ((0x00, 0) ∷ (0x23, 0) ∷ (0x00, 256) ∷ [])
+    ∷ record {
+      cells = blankArray 448;
+      commands = PowerUp ∷ Transition 1 0 7 ∷ PowerUp ∷ [];
+      expected = (0x00, 0) ∷ (0x23, 0) ∷ (0x00, 256) ∷ [];
+      left = none;
+      stored = lowestBitChanged;
+    }
     -- 11. RAW to DEV: 0x21; power-up 256.
     ∷ case (PowerUp ∷ Transition 16 0 7 ∷ PowerUp ∷ []) ((0x00, 0) ∷ (0x21, 0) ∷ (0x00, 256) ∷ [])
     -- 12. Count 24, target SCRAP: 0x20, cells unchanged.
-    ∷ record { cells = spent; commands = PowerUp ∷ Transition 20 0 0 ∷ []; expected = (0x00, 6144) ∷ (0x20, 0) ∷ []; left = some spent }
-    -- 13. TEST_LOCKED0 to TEST_UNLOCKED1, SECRET0 open: 0x22.
-    ∷ case (PowerUp ∷ Transition 1 0 7 ∷ PowerUp ∷ Transition 2 0 0 ∷ PowerUp ∷ Transition 3 0 0 ∷ [])
-    ((0x00, 0) ∷ (0x00, 0) ∷ (0x00, 257) ∷ (0x00, 0) ∷ (0x00, 514) ∷ (0x22, 0) ∷ [])
+    ∷ record { cells = spent; commands = PowerUp ∷ Transition 20 0 0 ∷ []; expected = (0x00, 6144) ∷ (0x20, 0) ∷ []; left = some spent; stored = asIs }
+    -- 13. TEST_LOCKED0 to TEST_UNLOCKED1, SECRET0 open: 0x22; the stroke is spent, and a power-up answers 770.
+    ∷ case (PowerUp ∷ Transition 1 0 7 ∷ PowerUp ∷ Transition 2 0 0 ∷ PowerUp ∷ Transition 3 0 0 ∷ PowerUp ∷ [])
+    ((0x00, 0) ∷ (0x00, 0) ∷ (0x00, 257) ∷ (0x00, 0) ∷ (0x00, 514) ∷ (0x22, 0) ∷ (0x00, 770) ∷ [])
     -- 14. DEVICE_ID written: front read old, read new; after power-up both new.
     ∷ case (PowerUp ∷ Write 0x200 0x99 ∷ FrontRead 0x200 ∷ Read 0x200 ∷ PowerUp ∷ FrontRead 0x200 ∷ Read 0x200 ∷ [])
     ((0x00, 0) ∷ (0x00, 0) ∷ (0x00, 0) ∷ (0x00, 0x99) ∷ (0x00, 0) ∷ (0x00, 0x99) ∷ (0x00, 0x99) ∷ [])

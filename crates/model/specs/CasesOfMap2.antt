@@ -1,12 +1,12 @@
 -- The 14 cases of document 01 over Map 2, and cases of what is new there (request Six), in one table. HW_CFG0 stands for HW_CFG, partition 0 is VENDOR_TEST.
 use Prim.Native.Nat.{ℕ}
 use mathlib.Core.List.{List, [], _∷_, _++_}
-use mathlib.Core.Option.{some}
+use mathlib.Core.Option.{none, some}
 use lib.ListN.{replicate}
 use Rattle.partitions.specs.Map2.{map2}
 use Rattle.model.specs.declared.Command.the-variants.{Read, Write, FrontRead, Digest, ReadLock, Transition, PowerUp}
 use Rattle.model.specs.Lent.{Primitives, digestStart, digestFinal}
-use Rattle.model.specs.CaseTables.{Case, words, number, blankArray, arrayWith, onBlank, off, bothSides, secondBurn, whichWord, constants, HoldOn}
+use Rattle.model.specs.CaseTables.{Case, asIs, lowestBitChanged, words, number, blankArray, arrayWith, onBlank, off, bothSides, secondBurn, whichWord, constants, HoldOn}
 
 -- count 24, state RAW: from word 696 (0x570) on, 24 counter words that are all D and 20 state words that are zero
 abbrev pub spentOfMap2 : List ℕ
@@ -35,14 +35,20 @@ paperOnMap2 =
     ∷ onBlank 740 (PowerUp ∷ Transition 1 0 7 ∷ Read 0 ∷ Write 0 0 ∷ FrontRead 0x440 ∷ Digest 0x440 ∷ ReadLock 0 ∷ Transition 1 0 7 ∷ PowerUp ∷ [])
     ((0x00, 0) ∷ (0x00, 0) ∷ (0x07, 0) ∷ (0x07, 0) ∷ (0x07, 0) ∷ (0x07, 0) ∷ (0x07, 0) ∷ (0x07, 0) ∷ (0x00, 257) ∷ [])
     -- 10. Wrong token: 0x23; power-up 256.
-    ∷ onBlank 740 (PowerUp ∷ Transition 1 0 8 ∷ PowerUp ∷ []) ((0x00, 0) ∷ (0x23, 0) ∷ (0x00, 256) ∷ [])
+    ∷ record {
+      cells = blankArray 740;
+      commands = PowerUp ∷ Transition 1 0 7 ∷ PowerUp ∷ [];
+      expected = (0x00, 0) ∷ (0x23, 0) ∷ (0x00, 256) ∷ [];
+      left = none;
+      stored = lowestBitChanged;
+    }
     -- 11. RAW to DEV: 0x21; power-up 256.
     ∷ onBlank 740 (PowerUp ∷ Transition 16 0 7 ∷ PowerUp ∷ []) ((0x00, 0) ∷ (0x21, 0) ∷ (0x00, 256) ∷ [])
     -- 12. Count 24, target SCRAP: 0x20, cells unchanged.
-    ∷ record { cells = spentOfMap2; commands = PowerUp ∷ Transition 20 0 0 ∷ []; expected = (0x00, 6144) ∷ (0x20, 0) ∷ []; left = some spentOfMap2 }
-    -- 13. TEST_LOCKED0 to TEST_UNLOCKED1, SECRET0 open: 0x22.
-    ∷ onBlank 740 (PowerUp ∷ Transition 1 0 7 ∷ PowerUp ∷ Transition 2 0 0 ∷ PowerUp ∷ Transition 3 0 0 ∷ [])
-    ((0x00, 0) ∷ (0x00, 0) ∷ (0x00, 257) ∷ (0x00, 0) ∷ (0x00, 514) ∷ (0x22, 0) ∷ [])
+    ∷ record { cells = spentOfMap2; commands = PowerUp ∷ Transition 20 0 0 ∷ []; expected = (0x00, 6144) ∷ (0x20, 0) ∷ []; left = some spentOfMap2; stored = asIs }
+    -- 13. TEST_LOCKED0 to TEST_UNLOCKED1, SECRET0 open: 0x22; the stroke is spent, and a power-up answers 770.
+    ∷ onBlank 740 (PowerUp ∷ Transition 1 0 7 ∷ PowerUp ∷ Transition 2 0 0 ∷ PowerUp ∷ Transition 3 0 0 ∷ PowerUp ∷ [])
+    ((0x00, 0) ∷ (0x00, 0) ∷ (0x00, 257) ∷ (0x00, 0) ∷ (0x00, 514) ∷ (0x22, 0) ∷ (0x00, 770) ∷ [])
     -- 14. DEVICE_ID written: front read old, read new; after power-up both new.
     ∷ onBlank 740 (PowerUp ∷ Write 0x440 0x99 ∷ FrontRead 0x440 ∷ Read 0x440 ∷ PowerUp ∷ FrontRead 0x440 ∷ Read 0x440 ∷ [])
     ((0x00, 0) ∷ (0x00, 0) ∷ (0x00, 0) ∷ (0x00, 0x99) ∷ (0x00, 0) ∷ (0x00, 0x99) ∷ (0x00, 0x99) ∷ [])
@@ -58,6 +64,7 @@ authStateRows =
           PowerUp ∷ Write 0x418 0x0F ∷ Write 0x41B 0xF0 ∷ Write 0x418 0x1F ∷ Write 0x418 0x1F ∷ PowerUp ∷ Write 0x41A 0xFF ∷ Write 0x418 0 ∷ Read 0x419 ∷ [];
       expected = (0x00, 0) ∷ (0x00, 0) ∷ (0x04, 0x20C) ∷ (0x00, 0) ∷ (0x00, 0) ∷ (0x00, 0) ∷ (0x00, 0) ∷ (0x04, 0x20C) ∷ (0x00, 0xFF) ∷ [];
       left = some (arrayWith 740 0x20C (0xFF ∷ []));
+      stored = asIs;
     }
     -- The lowest word whose bit would be cleared is named: the second, where the first only gains; the first, where both lose. The last granule of the data.
     ∷ onBlank 740 (PowerUp ∷ Write 0x434 0x10001 ∷ Write 0x434 0x00003 ∷ Write 0x437 0 ∷ Write 0x434 0x30003 ∷ Read 0x434 ∷ [])
@@ -99,18 +106,21 @@ edgeRows =
       commands = PowerUp ∷ Write 0x037 number ∷ Write 0x03F number ∷ Write 0x040 number ∷ [];
       expected = (0x00, 0) ∷ (0x00, 0) ∷ (0x00, 0) ∷ (0x00, 0) ∷ [];
       left = some (arrayWith 740 0x01A ((0x7788 ∷ 0x5566 ∷ []) ++ words ++ (0x7788 ∷ 0x5566 ∷ [])));
+      stored = asIs;
     }
     ∷ record {
       cells = blankArray 740;
       commands = PowerUp ∷ Write 0x23F number ∷ Write 0x240 number ∷ [];
       expected = (0x00, 0) ∷ (0x00, 0) ∷ (0x00, 0) ∷ [];
       left = some (arrayWith 740 0x11C (words ++ (0x7788 ∷ 0x5566 ∷ [])));
+      stored = asIs;
     }
     ∷ record {
       cells = blankArray 740;
       commands = PowerUp ∷ Write 0x40F number ∷ Write 0x417 number ∷ Write 0x418 number ∷ [];
       expected = (0x00, 0) ∷ (0x00, 0) ∷ (0x00, 0) ∷ (0x00, 0) ∷ [];
       left = some (arrayWith 740 0x206 ((0x7788 ∷ 0x5566 ∷ []) ++ words ++ (0x7788 ∷ 0x5566 ∷ [])));
+      stored = asIs;
     }
     ∷ []
 

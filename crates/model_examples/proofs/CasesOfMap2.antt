@@ -8,7 +8,7 @@ use Rattle.partitions.specs.Map2.{map2}
 use Rattle.model.specs.declared.Command.the-variants.{Read, Write, FrontRead, Digest, ReadLock, Transition, PowerUp}
 use Rattle.model.specs.Lent.{Primitives}
 use Rattle.model.specs.Step.{obey}
-use Rattle.model.specs.CaseTables.{Case, off, bothSides, secondBurn, whichWord}
+use Rattle.model.specs.CaseTables.{Case, asIs, lowestBitChanged, off, bothSides, secondBurn, whichWord}
 use Rattle.model.specs.CasesOfMap2.{paperOnMap2, authStateRows, readLockRows, frontReadRows, edgeRows, hwCfg1Digest, tableOfMap2, HoldOnMap2, blankHwCfg1Digest}
 use Rattle.model.proofs.CaseTables.{_&_, same, right-same, wrong-differs, Part, both, held, woken, unlocking, unlocked}
 use Rattle.model.proofs.Everything.{everything}
@@ -18,22 +18,22 @@ module _ (prims : Primitives) (keys : ℕ → ℕ) where
   _and_ : {xs ys : List Case} → Part prims keys map2 740 xs → Part prims keys map2 740 ys → Part prims keys map2 740 (xs ++ ys)
   h and k = both prims keys map2 740 h k
 
-  transition-is : (low : ℕ) (result : Bool) → same prims keys (0 * 2 ^ 64 + low) ≡ result
-      → obey prims map2 (Transition 1 0 low) (woken prims keys map2 740) ≡ unlocking prims keys map2 740 result
+  transition-is : (stored : ℕ → ℕ) (result : Bool) → same prims keys stored ≡ result
+      → obey prims map2 (Transition 1 0 7) (woken prims keys map2 740 stored) ≡ unlocking prims keys map2 740 stored result
   unfolding everything map2
-  transition-is low result e = ap (unlocking prims keys map2 740) e
+  transition-is stored result e = ap (unlocking prims keys map2 740 stored) e
 
-  paper-rows : prims .hash 7 < 2 ^ 128 → (prims .hash 8 ≡ prims .hash 7 → ⊥) → Part prims keys map2 740 paperOnMap2
+  paper-rows : prims .hash 7 < 2 ^ 128 → Part prims keys map2 740 paperOnMap2
   unfolding everything map2
-  paper-rows h d =
-      let right = transition-is 7 true (right-same prims keys h) in
-      let wrong = transition-is 8 false (wrong-differs prims keys h d) in
+  paper-rows h =
+      let right = transition-is asIs true (right-same prims keys h) in
+      let wrong = transition-is lowestBitChanged false (wrong-differs prims keys h) in
       record {
         rows =
             (refl, refl, tt) & (refl, refl, tt) & (refl, refl, tt) & (refl, refl, tt) & (refl, refl, tt) & (refl, refl, tt) & (refl, refl, tt) & (refl, refl, tt)
             & (refl, ap (unlocked prims keys map2 740 (Read 0 ∷ Write 0 0 ∷ FrontRead 0x440 ∷ Digest 0x440 ∷ ReadLock 0 ∷ Transition 1 0 7 ∷ PowerUp ∷ [])) right, tt)
             & (refl, ap (unlocked prims keys map2 740 (PowerUp ∷ [])) wrong, tt) & (refl, refl, tt) & (refl, refl, refl)
-            & (refl, ap (unlocked prims keys map2 740 (PowerUp ∷ Transition 2 0 0 ∷ PowerUp ∷ Transition 3 0 0 ∷ [])) right, tt) & (refl, refl, tt) & tt;
+            & (refl, ap (unlocked prims keys map2 740 (PowerUp ∷ Transition 2 0 0 ∷ PowerUp ∷ Transition 3 0 0 ∷ PowerUp ∷ [])) right, tt) & (refl, refl, tt) & tt;
       }
 
   auth-state : Part prims keys map2 740 authStateRows
@@ -75,9 +75,9 @@ module _ (prims : Primitives) (keys : ℕ → ℕ) where
       let d = blankHwCfg1Digest prims keys in
       record { rows = (refl, ap (λ (x : ℕ). (0x00, 0) ∷ (0x00, d) ∷ (0x00, 0) ∷ (0x00, x) ∷ (0x00, x) ∷ []) (number-block d h), tt) & (refl, refl, tt) & tt }
 
-  pub cases-of-map2 : blankHwCfg1Digest prims keys < 2 ^ 64 → prims .hash 7 < 2 ^ 128 → (prims .hash 8 ≡ prims .hash 7 → ⊥)
+  pub cases-of-map2 : blankHwCfg1Digest prims keys < 2 ^ 64 → prims .hash 7 < 2 ^ 128
       → HoldOnMap2 prims keys (tableOfMap2 (blankHwCfg1Digest prims keys))
   unfolding tableOfMap2
-  cases-of-map2 h small other =
+  cases-of-map2 h small =
       held prims keys map2 740 (tableOfMap2 (blankHwCfg1Digest prims keys))
-      ((paper-rows small other and auth-state and read-locks and front-reads and edges and owner-rows and device-once and last-named and hw-cfg1-digest h) .rows)
+      ((paper-rows small and auth-state and read-locks and front-reads and edges and owner-rows and device-once and last-named and hw-cfg1-digest h) .rows)

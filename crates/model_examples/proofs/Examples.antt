@@ -242,10 +242,10 @@ stored-whole = refl
 half-put : Puts map1 0 0x100000001 (Write 0x0FC 0x100000000) (Done 0) → ⊥
 half-put (writes n d e) = omega arith
 
--- ---- what the table of cases asks: the digest of a blank HW_CFG is a number of 64 bits, the hash of the right token one of 128 bits, and the wrong token's another
+-- ---- what the table of cases asks: the digest of a blank HW_CFG is a number of 64 bits, and the hash of the token one of 128
 
 table-held : let prims = toyWith (λ words. number) in Hold prims (λ i. 0) (table (blankDigest prims (λ i. 0)))
-table-held = cases (toyWith (λ words. number)) (λ i. 0) (lit< tt) (lit< tt) (λ e. absurd (omega arith))
+table-held = cases (toyWith (λ words. number)) (λ i. 0) (lit< tt) (lit< tt)
 
 -- ---- two chips: SECRET0 locked on both with digest 1, and one word of its data (at 0x250) different
 
