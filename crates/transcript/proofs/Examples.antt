@@ -1,18 +1,23 @@
 -- Computed examples beside the theorem: two images that meet its premises, and what a script prints for them.
 use Prim.Native.Nat.{ℕ, zero, suc, _<_}
-use mathlib.Core.Path.{_≡_, refl, sym, subst}
+use mathlib.Core.Path.{_≡_, refl, sym, ap, subst, _∙_}
+use mathlib.Core.Bool.{Bool, false}
 use mathlib.Core.List.{List, [], _∷_, _++_}
+use mathlib.Core.Option.{some}
 use native.Mathlib.Omega.{arith}
 use lib.Dec.{eqb, ltb, lit<}
-use lib.ListN.{getD, set, replicate, List·getD-eq-default}
+use lib.ListN.{getD, set, drop, replicate, List·getD-eq-default}
 use lib.Seq.{getD-set-other}
 use borrow.Author.Tests.{eqb-true, eqb-false, ltb-true, ltb-false}
+use Rattle.basics.specs.Choice.{if_then_else_}
 use Rattle.basics.specs.Range.{sum}
 use Rattle.basics.proofs.Choice.{by-cases}
 use Rattle.basics.proofs.Range.{all-at}
 use Rattle.present.specs.Present.{sBox, substitute, place, permute, roundKey, rotateLeft61, substituteTop, keyStep, keyAfter, stateAfter, encryptBlock}
 use Rattle.digest.specs.Digest.{absorb, absorbAll, digestOf, blocksOf, digestWords}
+use Rattle.partitions.specs.Map2.{map2}
 use Rattle.partitions.specs.Maps.{mapOf}
+use Rattle.model.specs.PowerUp.{firstFailing, verdictOf}
 use Rattle.model.specs.Terms.{Matched, HiddenWord, Alike}
 use Rattle.model.proofs.Everything.{everything}
 use Rattle.chip.specs.Chip.{primitives}
@@ -23,9 +28,9 @@ use Rattle.transcript.specs.Transcript.{refusedKind, mapFor, mapUsed, ch
 use Rattle.transcript.specs.Printed.{commandsFrom, refusalFrom, commandsOf, linesFor, linesWhole, TwoChips}
 use Rattle.transcript.proofs.Printed.{what-is-printed}
 
--- the whole chip and the reader, under one name
+-- the model, the reader and the lines, under one name
 unfoldable all : Unit {0}
-unfolding everything sum sBox substitute place permute roundKey rotateLeft61 substituteTop keyStep keyAfter stateAfter encryptBlock absorb absorbAll digestOf blocksOf digestWords mapOf mapFor pairs fileWords unknown bodyLength numberAt commandAt nextAt refusedKind linesFrom linesOf digitByte digits lineOf decimal endLine printed transcript commandsFrom refusalFrom linesFor
+unfolding everything sum map2 mapOf mapFor pairs fileWords unknown bodyLength numberAt commandAt nextAt refusedKind linesFrom linesOf digitByte digits lineOf decimal endLine printed transcript commandsFrom refusalFrom linesFor
 all = tt
 
 -- n words below 256, as bytes
@@ -59,17 +64,17 @@ cut-short : linesWhole (7 ∷ 7 ∷ 5 ∷ []) (replicate 896 0) constants
 unfolding all words constants
 cut-short = refl
 
--- ---- two images that meet the premises of `chips`, and a power-up
+-- ---- two images of Map 2 that meet the premises of `chips`, and a power-up
 
--- an image of Map 1: SECRET0 with this first byte and the digest 1, else blank
+-- HW_CFG1 and SECRET0 with the digest 1, SECRET0 with this first byte, else blank
 image : ℕ → List ℕ
-image x = replicate 592 0 ++ (x ∷ replicate 31 0) ++ (1 ∷ replicate 271 0)
+image x = replicate 1168 0 ++ (1 ∷ replicate 7 0) ++ (x ∷ replicate 31 0) ++ (1 ∷ replicate 271 0)
 
-one-word : fileWords (image 5) ≡ set (fileWords (image 0)) 296 5
+one-word : fileWords (image 5) ≡ set (fileWords (image 0)) 588 5
 unfolding all image
 one-word = refl
 
-hidden : HiddenWord (mapUsed (image 0)) (fileWords (image 0)) (fileWords (image 5)) 296
+hidden : HiddenWord (mapUsed (image 0)) (fileWords (image 0)) (fileWords (image 5)) 588
 unfolding all image
 hidden = record {
   hidden = record { known = lit< tt; secret = refl; equal = refl; nonzero = λ e. omega arith };
@@ -82,9 +87,9 @@ alike = record { at = word }
     word : (j : ℕ) → (HiddenWord (mapUsed (image 0)) (fileWords (image 0)) (fileWords (image 5)) j → ⊥)
         → getD (fileWords (image 0)) j 0 ≡ getD (fileWords (image 5)) j 0
     word j h =
-        by-cases (eqb j 296)
-        (λ t. absurd (h (subst (HiddenWord (mapUsed (image 0)) (fileWords (image 0)) (fileWords (image 5))) (sym (eqb-true j 296 t)) hidden)))
-        (λ t. rw one-word (sym (getD-set-other (fileWords (image 0)) 296 j 5 0 (eqb-false j 296 t))))
+        by-cases (eqb j 588)
+        (λ t. absurd (h (subst (HiddenWord (mapUsed (image 0)) (fileWords (image 0)) (fileWords (image 5))) (sym (eqb-true j 588 t)) hidden)))
+        (λ t. rw one-word (sym (getD-set-other (fileWords (image 0)) 588 j 5 0 (eqb-false j 588 t))))
 
 constant-bytes : (i : ℕ) → getD constants i 0 < 256
 unfolding all words constants
@@ -101,10 +106,18 @@ two-chips = record {
   alike = alike;
 }
 
--- the check of SECRET0's digest fails on both
+-- 1 is not the digest of a blank HW_CFG1, so that its check fails on both
+other-digest : eqb 1 (digestWords 0 0 (0 ∷ 0 ∷ 0 ∷ 0 ∷ [])) ≡ false
+unfolding everything sum sBox substitute place permute roundKey rotateLeft61 substituteTop keyStep keyAfter stateAfter encryptBlock absorb absorbAll digestOf blocksOf digestWords
+other-digest = refl
+
+verdict : (x : ℕ) → verdictOf primitives map2 (chipOf (image x) constants .lent) ≡ some 6
+unfolding all words constants image
+verdict x = ap (λ (holds : Bool). if holds then firstFailing primitives (fileWords constants) (fileWords (image x)) 7 (drop 7 map2) else some 6) other-digest
+
 matched : Matched primitives (mapUsed (image 0)) (commandsOf (7 ∷ [])) (chipOf (image 0) constants) (chipOf (image 5) constants)
 unfolding all Matched words constants image
-matched = (tt, (refl, tt), tt)
+matched = (tt, (verdict 0 ∙ sym (verdict 5), tt), tt)
 
 printed-alike : transcript (7 ∷ []) (image 0) constants ≡ transcript (7 ∷ []) (image 5) constants
 printed-alike = what-is-printed .chips (7 ∷ []) (image 0) (image 5) constants two-chips refl matched

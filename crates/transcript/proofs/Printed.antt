@@ -26,7 +26,8 @@ use Rattle.transcript.specs.Printed.{commandsFrom, commandsOf, refusalOf
 use Rattle.transcript.proofs.Files.{words-small, words-as-many}
 use Rattle.transcript.proofs.Lines.{lines-whole}
 
-bytes-whole : (script image constants : List ℕ) → let ls = linesWhole script image constants in transcript script image constants ≡ printed ls ++ endLine (length ls)
+bytes-whole : (script image constants : List ℕ)
+    → let ls = linesWhole script image constants in transcript script image constants ≡ printed ls ++ endLine (length ls)
 unfolding transcript
 bytes-whole script image constants = ap (λ (ls : List Line). printed ls ++ endLine (length ls)) (lines-whole script image constants)
 

@@ -72,7 +72,8 @@ answers-wrong : (map : Map) (m : Machine) → rightLengths map (m .lent) ≡ fal
 unfolding linesFor answers wrongLines
 answers-wrong map m wrong [] = refl
 answers-wrong map m wrong (x ∷ l) =
-    rw (step-wrong map x m wrong, machineAfter, answerTo) (ap (λ (ls : List Line). record { kind = kindOf x; code = 0x10; value = 0 } ∷ ls) (answers-wrong map m wrong l))
+    rw (step-wrong map x m wrong, machineAfter, answerTo)
+    (ap (λ (ls : List Line). record { kind = kindOf x; code = 0x10; value = 0 } ∷ ls) (answers-wrong map m wrong l))
 
 lines-wrong : (script image constants : List ℕ) → Wrong image constants → linesOf script image constants ≡ wrongLines (commandsOf script) ++ refusalOf script
 lines-wrong script image constants h =
