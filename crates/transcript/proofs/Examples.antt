@@ -45,13 +45,13 @@ constants = words 36 0 ++ words 24 1 ++ words 24 3 ++ words 20 1 ++ words 20 3 +
 
 -- "With a blank image and valid constants, a power-up, a write of 0x12345678 at 0, reads at 0 and 0x328 give exactly": the five lines, here with these
 -- constants
-paper's-script : List ℕ
-paper's-script = 7 ∷ (2 ∷ 0 ∷ 0 ∷ 0 ∷ 0 ∷ 0x78 ∷ 0x56 ∷ 0x34 ∷ 0x12 ∷ 0 ∷ 0 ∷ 0 ∷ 0 ∷ []) ++ (1 ∷ 0 ∷ 0 ∷ 0 ∷ 0 ∷ []) ++ (1 ∷ 0x28 ∷ 0x03 ∷ 0 ∷ 0 ∷ [])
+example-script : List ℕ
+example-script = 7 ∷ (2 ∷ 0 ∷ 0 ∷ 0 ∷ 0 ∷ 0x78 ∷ 0x56 ∷ 0x34 ∷ 0x12 ∷ 0 ∷ 0 ∷ 0 ∷ 0 ∷ []) ++ (1 ∷ 0 ∷ 0 ∷ 0 ∷ 0 ∷ []) ++ (1 ∷ 0x28 ∷ 0x03 ∷ 0 ∷ 0 ∷ [])
 
-paper's-lines : transcript paper's-script (replicate 896 0) constants
+example-printed : transcript example-script (replicate 896 0) constants
     ≡ lineOf 0x07 0x00 0 ++ lineOf 0x02 0x00 0 ++ lineOf 0x01 0x00 0x12345678 ++ lineOf 0x01 0x05 0 ++ endLine 4
-unfolding all words constants paper's-script
-paper's-lines = refl
+unfolding all words constants example-script
+example-printed = refl
 
 -- a power-up, and the reader's own refusals: an unknown kind, and a record cut short
 unknown-kind : linesWhole (7 ∷ 8 ∷ []) (replicate 896 0) constants
