@@ -1,4 +1,4 @@
--- Computed examples beside the theorem: two images that meet its premises, and what a script prints for them.
+-- Computed examples beside the theorem: what scripts print, and two images that meet its premises.
 use Prim.Native.Nat.{ℕ, zero, suc, _<_}
 use mathlib.Core.Path.{_≡_, refl, sym, ap, subst, _∙_}
 use mathlib.Core.Bool.{Bool, false}
