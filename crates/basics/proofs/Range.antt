@@ -11,7 +11,7 @@ use lib.ListN.{length, getD, set, length-set}
 use lib.Seq.{sets, ext-getD, getD-set-same, getD-set-other}
 use borrow.Author.Tests.{eqb-true, eqb-false}
 use Rattle.basics.specs.Range.{allBelow, anyBelow, listed}
-use Rattle.basics.proofs.Choice.{by-cases, from-T, to-T, and-left, and-right, or-none-left, or-none-right, true-not-false}
+use Rattle.basics.proofs.Choice.{by-cases, from-T, to-T, and-left, and-right, or-none-left, or-none-right, true-not-false, and-both}
 
 -- a computed test at each number
 pub all-at : (n : ℕ) (test : ℕ → Bool) → T (allBelow n test) → (i : ℕ) → i < n → test i ≡ true
@@ -116,3 +116,8 @@ at-some zero test e = absurd (true-not-false e refl)
 at-some (suc n) test e =
     by-cases (test n) (λ t. record { at = n; below = omega arith; holds = t })
     (λ t. (let h = at-some n test (rw t at e) in record { at = h .at; below = omega (arith, h .below); holds = h .holds }))
+
+pub all-below : (n : ℕ) (test : ℕ → Bool) → ((i : ℕ) → i < n → test i ≡ true) → allBelow n test ≡ true
+unfolding allBelow
+all-below zero test h = refl
+all-below (suc n) test h = and-both _ _ (h n (omega arith)) (all-below n test (λ i l. h i (omega arith)))

@@ -17,6 +17,7 @@ pub mod Deaths
 pub mod Quiet
 pub mod LeftOut
 pub mod NotReady
+pub mod Order
 pub mod ReadCodes
 pub mod Places
 pub mod LifeCycleWords
@@ -37,6 +38,7 @@ pub mod FrontReads
 pub mod PowerUps
 pub mod ReadLocks
 pub mod WordSizes
+pub mod DigestCodes
 pub mod DigestChecks
 pub mod FailedDigests
 pub mod FailedLifeCycles

@@ -8,7 +8,7 @@ use native.Mathlib.Omega.{arith}
 use lib.Dec.{eqb, leb, ltb}
 use lib.ListN.{length, getD, set, length-set}
 use lib.Seq.{set-out, getD-set-same, getD-set-other}
-use borrow.Author.Tests.{eqb-true, eqb-false, ltb-true, ltb-false, not-false}
+use borrow.Author.Tests.{eqb-true, eqb-false, ltb-true, ltb-false, not-false, not-true}
 use Rattle.basics.specs.Choice.{if_then_else_}
 use Rattle.basics.proofs.Choice.{true-not-false, by-cases, if-both, if-same}
 use Rattle.partitions.specs.Map.{Map, rightsOf, numberAt, partition, partitionAt, limit}
@@ -17,7 +17,7 @@ use Rattle.partitions.proofs.KindRights.{lockable-direct}
 use Rattle.partitions.proofs.Map.{digest-below-ten, partition-at}
 use Rattle.life_cycle.specs.Constants.{validConstants}
 use Rattle.model.specs.declared.Session.{Session}
-use Rattle.model.specs.declared.Answer.the-variants.{Denied, NotReady}
+use Rattle.model.specs.declared.Answer.the-variants.{Denied, NotReady, Done}
 use Rattle.model.specs.declared.Command.{Command}
 use Rattle.model.specs.declared.Command.the-variants.{Read, Write, FrontRead, Digest, ReadLock, Transition, PowerUp}
 use Rattle.model.specs.Answers.{codeOf}
@@ -27,8 +27,11 @@ use Rattle.model.specs.Acts.{Turn, stay, lock, halt, die, turned, Act, P
 use Rattle.model.specs.Commands.{writeAct, readAct, frontReadAct, digestAct, readLockAct, moveAct, lockedTokenAct, tokenAct, entryAct, transitionAct, commandAct, readyAct}
 use Rattle.model.specs.PowerUp.{Waking, fails, wakes, waking, wokenSession}
 use Rattle.model.specs.Step.{Step, unchanged, performed, act, powerUp, obey, step, after, machineAfter, answerTo}
-use Rattle.model.specs.Claims.Terms.{Right, notPowerUp, NoPowerUp}
+use Rattle.model.specs.Claims.Terms.{Right, Says, notPowerUp, NoPowerUp}
 use Rattle.model.specs.Claims.ReadLocks.{readsData}
+use Rattle.model.specs.declared.Phase.the-variants.{Ready}
+use Rattle.model.specs.Claims.Numbers.{Lockable}
+use Rattle.model.proofs.KindNames.{lockable-kind, kind-lockable}
 use Rattle.model.proofs.Steps.{obey-both, obeys-act, step-both, step-all, step-obeys, step-up, step-right, after-right}
 use Rattle.model.proofs.Refusals.{same-machine}
 use Rattle.model.proofs.NotReady.{no-power-up}
@@ -315,3 +318,22 @@ module _ (prims : Primitives) (map : Map) (m : Machine) (a : ℕ) (none : rights
       by-cases (rightLengths map (m .lent))
       (λ t. by-cases (validConstants (m .lent .constants)) (λ v. rw (answerTo, t, v, same-act)) (λ v. rw (answerTo, t, v)))
       (λ t. rw (answerTo, t))
+
+-- ---- when a read lock is taken
+
+module _ (prims : Primitives) (map : Map) (m : Machine) (n : ℕ) where
+  abbrev Taken : Step → Type 0
+  Taken s =
+      (Lockable (partition map n .kind)
+      → (s .result .answer ≡ Done 0) × (s .result .machine ≡ record { lent = m .lent; session = withLocks (set (m .session .locks) n true) (m .session) }))
+      × ((Lockable (partition map n .kind) → ⊥) → Says 0x05 0 (s .result .answer))
+
+  pub lock-exact : Right map m → m .session .phase ≡ Ready → Taken (step prims map (ReadLock n) m)
+  unfolding obey act performed readyAct commandAct readLockAct perform turned isReady
+  lock-exact r e =
+      let to : Act → Type 0 = λ x. Taken (performed (perform x (m .lent .copy) (m .lent .cells)) m) in
+      rw (step-obeys prims map (ReadLock n) m r)
+      (if-both to (not (isReady (m .session .phase))) _ _ (λ t. absurd (true-not-false (ap isReady e) (not-true _ t)))
+      λ t. if-both to (not (rightsOf (partition map n .kind) .lockable)) _ _
+      (λ u. ((λ k. absurd (true-not-false (kind-lockable k) (not-true _ u))), λ k. (refl, refl)))
+      λ u. ((λ k. (refl, refl)), λ k. absurd (k (lockable-kind _ (not-false _ u)))))

@@ -96,6 +96,18 @@ bit-refuses s v = (found, λ c. some-at 16 _ (c .place) (c .within) (and-both _ 
         let h = at-some 16 (λ i. eqb (bit s i) 1 && eqb (bit v i) 0) e in
         record { place = h .at; within = h .below; one = eqb-true _ 1 (and-left (eqb (bit s (h .at)) 1) _ (h .holds)); zero = eqb-true _ 0 (and-right (eqb (bit s (h .at)) 1) _ (h .holds)) }
 
+-- the lowest word that refuses by the new rule
+pub lowest-blank : (cells words : List ℕ) (at i : ℕ) → Lowest BlankOnly cells at words i ↔ LowestBurnt cells at (length words) i
+lowest-blank cells words at i = (
+  (λ l. record { from = l .from; to = l .to; burnt = blank-refuses _ _ .0 (l .refusing); lower = λ j f u. blank-passed _ _ (l .lower j f u) }),
+  λ b. record {
+    from = b .from;
+    to = b .to;
+    refusing = blank-refuses _ _ .1 (b .burnt);
+    lower = λ j f u. not-passed _ (λ e. blank-refuses _ _ .0 e (b .lower j f u));
+  },
+)
+
 -- which rule a write has
 blank-rule : (p : Partition) (a : ℕ) → (p .kind ≡ kind.AuthState → a < p .digest → ⊥) → directRule p a ≡ BlankOnly
 blank-rule p a n = by-rule (directRule p a) (λ e. absurd (let o = old-auth-state p a e in n (o .0) (o .1))) (λ e. e)
@@ -103,18 +115,7 @@ blank-rule p a n = by-rule (directRule p a) (λ e. absurd (let o = old-auth-stat
 module _ (map : Map) (cells words : List ℕ) (at a i : ℕ) where
   pub blank-lowest : (partitionAt map a .kind ≡ kind.AuthState → a < partitionAt map a .digest → ⊥)
       → Lowest (directRule (partitionAt map a) a) cells at words i ↔ LowestBurnt cells at (length words) i
-  blank-lowest n = rw rule (
-    (λ l. record { from = l .from; to = l .to; burnt = blank-refuses _ _ .0 (l .refusing); lower = λ j f u. blank-passed _ _ (l .lower j f u) }),
-    λ b. record {
-      from = b .from;
-      to = b .to;
-      refusing = blank-refuses _ _ .1 (b .burnt);
-      lower = λ j f u. not-passed _ (λ e. blank-refuses _ _ .0 e (b .lower j f u));
-    },
-  )
-    where
-      rule : directRule (partitionAt map a) a ≡ BlankOnly
-      rule = blank-rule (partitionAt map a) a n
+  blank-lowest n = rw (blank-rule (partitionAt map a) a n) (lowest-blank cells words at i)
 
   pub cleared-lowest : partitionAt map a .kind ≡ kind.AuthState → a < partitionAt map a .digest
       → Lowest (directRule (partitionAt map a) a) cells at words i ↔ LowestCleared cells at words i

@@ -40,7 +40,8 @@ use Rattle.model.proofs.Since.{since-held, since-reached}
 use Rattle.model.proofs.PowerUps.{alone, again, cleared, failed}
 use Rattle.model.proofs.FrontReads.{fronts, device-final}
 use Rattle.model.proofs.Quiet.{after-unsensed}
-use Rattle.model.proofs.ReadLocks.{locks-last, lock-others, lock-says-nothing}
+use Rattle.model.proofs.ReadLocks.{lock-exact, locks-last, lock-others, lock-says-nothing}
+use Rattle.model.proofs.DigestCodes.{digest-codes}
 use Rattle.model.proofs.DigestChecks.{digest-exact, digest-done, digest-only, digest-stored}
 use Rattle.model.proofs.FailedDigests.{sixes, digest-passes}
 use Rattle.model.proofs.FailedLifeCycles.{sevens}
@@ -101,6 +102,7 @@ transitions prims map F = record {
 pub digests : (prims : Primitives) → DigestFits prims → (map : Map) → fit map ≡ true → Digests prims map
 digests prims G map F = record {
   exactly = λ m r a. digest-exact prims map m a F r;
+  codes = λ m r e a. digest-codes prims map F m a r e;
   done = λ m r a z. digest-done prims map m a F r (digest-only prims map m a z);
   stored = λ m r w a z. digest-stored prims map m a F r (digest-only prims map m a z) G w;
   checks = λ m r w a z. digest-passes prims map F G m r w a (digest-only prims map m a z);
@@ -112,6 +114,7 @@ failed-power-ups prims G map F = record { sixes = sixes prims map F G; sevens = 
 
 pub read-locks : (prims : Primitives) (map : Map) → fit map ≡ true → ReadLocks prims map
 read-locks prims map F = record {
+  exactly = λ m r e n. lock-exact prims map m n r e;
   lasts = locks-last prims map F;
   others = λ m n l. lock-others prims map n m l;
   lockless = lock-says-nothing prims map;

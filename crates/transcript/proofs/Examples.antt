@@ -18,7 +18,7 @@ use Rattle.digest.specs.Digest.{absorb, absorbAll, digestOf, blocksOf, digestWo
 use Rattle.partitions.specs.Map2.{map2}
 use Rattle.partitions.specs.Maps.{mapOf}
 use Rattle.model.specs.PowerUp.{firstFailing, verdictOf}
-use Rattle.model.specs.Terms.{Matched, HiddenWord, Alike}
+use Rattle.model.specs.Claims.Terms.{Matched, HiddenWord, Alike}
 use Rattle.model.proofs.Everything.{everything}
 use Rattle.chip.specs.Chip.{primitives}
 use Rattle.script.specs.Records.{unknown, bodyLength, numberAt, commandAt, nextAt}

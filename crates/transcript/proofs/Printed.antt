@@ -13,9 +13,9 @@ use Rattle.model.specs.declared.Command.{Command}
 use Rattle.model.specs.declared.Command.the-variants.{Read, Write, FrontRead, Digest, ReadLock, Transition, PowerUp}
 use Rattle.model.specs.Lent.{rightLengths}
 use Rattle.model.specs.Step.{answers}
-use Rattle.model.specs.Terms.{Right, Matched}
+use Rattle.model.specs.Claims.Terms.{Right, Matched}
 use Rattle.chip.specs.Chip.{primitives}
-use Rattle.controller.proofs.Theorems.{chip-demand3}
+use Rattle.controller.proofs.Theorems.{chip-claims}
 use Rattle.script.specs.declared.Reading.{Reading}
 use Rattle.script.specs.declared.Reading.the-variants.{Record, End, Refused}
 use Rattle.script.specs.Records.{kindOf, byteAt, nextAt}
@@ -80,7 +80,7 @@ module _ (script image other constants : List ℕ) (two : TwoChips image other c
 
   same-some : (l : List Command) → Same (PowerUp ∷ l)
   same-some l matched =
-      chip-demand3 (mapFor image) .chips (chipOf image constants) (chipOf other constants) right right-other refl (two .alike) l matched .0
+      chip-claims (mapFor image) .demand3 .chips (chipOf image constants) (chipOf other constants) right right-other refl (two .alike) l matched .0
       ∙ ap (λ (map : Map). answers primitives map (PowerUp ∷ l) (chipOf other constants)) (sym same-map)
 
   print-alike : byteAt script 0 ≡ 7 → Matched primitives (mapUsed image) (commandsOf script) (chipOf image constants) (chipOf other constants)

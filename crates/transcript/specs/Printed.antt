@@ -10,7 +10,7 @@ use Rattle.model.specs.declared.Command.{Command}
 use Rattle.model.specs.Answers.{codeOf, valueOf}
 use Rattle.model.specs.Lent.{rightLengths}
 use Rattle.model.specs.Step.{answers}
-use Rattle.model.specs.Terms.{Matched, Alike}
+use Rattle.model.specs.Claims.Terms.{Matched, Alike}
 use Rattle.chip.specs.Chip.{primitives}
 use Rattle.script.specs.declared.Reading.the-variants.{Record, End, Refused}
 use Rattle.script.specs.Records.{kindOf, byteAt, refusalCode, nextAt}

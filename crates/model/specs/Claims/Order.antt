@@ -4,7 +4,7 @@ use mathlib.Core.Path.{_≡_}
 use mathlib.Core.Bool.{Bool, true, false, _||_}
 use mathlib.Core.Logic.{_↔_}
 use mathlib.Core.List.{List}
-use lib.Bits.{bitAnd}
+use lib.Bits.{bitOr}
 use lib.Dec.{eqb}
 use lib.ListN.{length, getD}
 use Rattle.partitions.specs.Map.{Map, limit}
@@ -26,7 +26,7 @@ pub record Lengths (map : Map) (l : Lent) : Type 0 where
 pub record ValidPair (low up : ℕ) : Type 0 where
   pub nonzero : low ≡ 0 → ⊥
   pub differs : low ≡ up → ⊥
-  pub covered : bitAnd low up ≡ low
+  pub covered : bitOr low up ≡ up
 
 -- "36 to 59 C0..C23; 60 to 83 D0..D23; 84 to 103 A0..A19; 104 to 123 B0..B19"
 pub record ValidPairs (constants : List ℕ) : Type 0 where

@@ -1,0 +1,211 @@
+-- The refusals that all commands share. The idea: once what is lent is right, no act and no power-up answers 0x10 or 0x12; which answers an act gives is read off its ends.
+use mathlib.Core.Path.{_≡_, refl, sym, ap, subst, _∙_}
+use mathlib.Core.Bool.{Bool, true, false, not, _&&_, _||_}
+use mathlib.Core.List.{List}
+use mathlib.Core.Logic.{_↔_}
+use mathlib.Core.Option.{Option}
+use Prim.Native.Nat.{ℕ, zero, suc, _+_, _/_, _<_}
+use native.Mathlib.Omega.{arith}
+use lib.Bits.{bitOr}
+use lib.Dec.{eqb}
+use lib.ListN.{length, getD}
+use borrow.Author.Tests.{eqb-true, eqb-false, eq-eqb, ne-eqb, not-false, not-true}
+use Rattle.basics.specs.Range.{allBelow}
+use Rattle.basics.proofs.Choice.{by-cases, true-not-false, not-passed, from-T, to-T, and-left, and-right, and-both, and-three, if-both, if-true, if-false}
+use Rattle.basics.proofs.Range.{all-at, all-below}
+use Rattle.words.specs.Programming.{losesBit}
+use Rattle.words.proofs.Rules.{or-keeps, keeps-or}
+use Rattle.partitions.specs.Map.{Map, limit}
+use Rattle.life_cycle.specs.declared.LifeCycle.{LifeCycle}
+use Rattle.life_cycle.specs.Constants.{constC, constD, constA, constB, pairValid, validConstants}
+use Rattle.life_cycle.specs.Transitions.{transition}
+use Rattle.life_cycle.proofs.Constants.{pair}
+use Rattle.model.specs.declared.Reason.{Reason}
+use Rattle.model.specs.declared.Phase.{Phase}
+use Rattle.model.specs.declared.Phase.the-variants as phase
+use Rattle.model.specs.declared.Answer.{Answer}
+use Rattle.model.specs.declared.Answer.the-variants.{Done, NotBlank, Denied, DigestFailed, NotReady, LifeCycleFailed, WrongLength, UnknownTarget, InvalidConstants, StrokesUsed, NotInTable, TokenNotLocked, TokenDiffers}
+use Rattle.model.specs.declared.Command.{Command}
+use Rattle.model.specs.declared.Command.the-variants.{Read, Write, FrontRead, Digest, ReadLock, Transition, PowerUp}
+use Rattle.model.specs.Answers.{codeOf, valueOf}
+use Rattle.model.specs.Session.{isReady}
+use Rattle.model.specs.Lent.{Lent, Machine, Primitives, rightLengths}
+use Rattle.model.specs.Acts.{Turn, Act, Performed, perform}
+use Rattle.model.specs.Commands.{writeAct, readAct, frontReadAct, digestAct, readLockAct, transitionAct, commandAct, readyAct}
+use Rattle.model.specs.PowerUp.{verdictOf, lifeCycleIn, waking}
+use Rattle.model.specs.Step.{Step, unchanged, performed, act, powerUp, obey, step, machineAfter, answerTo}
+use Rattle.model.specs.Claims.Terms.{Says, notPowerUp}
+use Rattle.model.specs.Claims.Order.{Lengths, ValidPair, ValidPairs, valued, Order}
+use Rattle.model.proofs.Acts.{Gives, perform-gives, gives-either}
+use Rattle.model.proofs.Transitions.{Ends, entry-gives}
+use Rattle.model.proofs.Steps.{judged-obeys, obeys-act, lengths-of}
+use Rattle.model.proofs.Waking.{woken-answer}
+use Rattle.model.proofs.NotReady.{no-power-up, step-not-ready}
+
+-- ---- the answers of an act
+
+abbrev Acted : Answer → Turn → Type 0
+Acted (Done value) t = Unit {0}
+Acted (NotBlank cell) t = Unit {0}
+Acted Denied t = Unit {0}
+Acted (DigestFailed partition) t = ⊥
+Acted NotReady t = Unit {0}
+Acted (LifeCycleFailed value) t = ⊥
+Acted WrongLength t = ⊥
+Acted UnknownTarget t = Unit {0}
+Acted InvalidConstants t = ⊥
+Acted StrokesUsed t = Unit {0}
+Acted NotInTable t = Unit {0}
+Acted TokenNotLocked t = Unit {0}
+Acted TokenDiffers t = Unit {0}
+
+-- what is known of the code and the value of every answer after 0x10 and 0x12
+abbrev Plain : Answer → Type 0
+Plain answer = (eqb (codeOf answer) 0x10 ≡ false) × (eqb (codeOf answer) 0x12 ≡ false)
+
+acted-plain : (answer : Answer) (t : Turn) → Acted answer t → Plain answer × (valued (codeOf answer) ≡ false → valueOf answer ≡ 0)
+acted-plain (Done value) t h = ((refl, refl), λ e. absurd (true-not-false refl e))
+acted-plain (NotBlank cell) t h = ((refl, refl), λ e. absurd (true-not-false refl e))
+acted-plain Denied t h = ((refl, refl), λ e. refl)
+acted-plain NotReady t h = ((refl, refl), λ e. refl)
+acted-plain UnknownTarget t h = ((refl, refl), λ e. refl)
+acted-plain StrokesUsed t h = ((refl, refl), λ e. refl)
+acted-plain NotInTable t h = ((refl, refl), λ e. refl)
+acted-plain TokenNotLocked t h = ((refl, refl), λ e. refl)
+acted-plain TokenDiffers t h = ((refl, refl), λ e. refl)
+
+acted-ends : Ends Acted
+acted-ends = record { not-blank = λ cell. tt; moved = tt; forbidden = tt; open? = tt; differs = tt }
+
+module _ (prims : Primitives) (map : Map) (m : Machine) where
+  command-acted : (x : Command) → Gives Acted (commandAct prims map m x)
+  unfolding commandAct writeAct readAct frontReadAct digestAct readLockAct transitionAct
+  command-acted (Read a) = search (gives-either, Gives.says) depth 9
+  command-acted (Write a value) = search (gives-either, Gives.says, Gives.programs) depth 9
+  command-acted (FrontRead a) = search (gives-either, Gives.says) depth 9
+  command-acted (Digest a) = search (gives-either, Gives.says, Gives.programs) depth 9
+  command-acted (ReadLock number) = search (gives-either, Gives.says) depth 9
+  command-acted (Transition target high low) =
+      gives-either _ (Gives.says tt) (gives-either _ (Gives.says tt) (gives-either _ (Gives.says tt)
+      (Gives.programs (λ cell. tt) (entry-gives acted-ends prims map m (transition (m .session .state) target) target _))))
+  command-acted PowerUp = Gives.says tt
+
+  ready-acted : (x : Command) → Gives Acted (readyAct prims map m x)
+  unfolding readyAct
+  ready-acted x = gives-either (not (isReady (m .session .phase))) (Gives.says tt) (command-acted x)
+
+  act-acted : (x : Command) → Plain (act prims map x m .result .answer) × (valued (codeOf (act prims map x m .result .answer)) ≡ false → valueOf (act prims map x m .result .answer) ≡ 0)
+  unfolding act performed
+  act-acted x =
+      let r : Performed = perform (readyAct prims map m x) (m .lent .copy) (m .lent .cells) in
+      acted-plain (r .answer) (r .turn) (perform-gives (ready-acted x) (m .lent .copy) (m .lent .cells))
+
+  up-plain : Plain (powerUp prims map m .result .answer)
+  unfolding powerUp waking
+  up-plain = woken-answer Plain (verdictOf prims map (m .lent)) (lifeCycleIn map (m .lent)) (λ value. (refl, refl)) (λ number. (refl, refl)) (λ value. (refl, refl))
+
+  obey-plain : (x : Command) → Plain (obey prims map x m .result .answer)
+  unfolding obey
+  obey-plain (Read a) = act-acted (Read a) .0
+  obey-plain (Write a value) = act-acted (Write a value) .0
+  obey-plain (FrontRead a) = act-acted (FrontRead a) .0
+  obey-plain (Digest a) = act-acted (Digest a) .0
+  obey-plain (ReadLock number) = act-acted (ReadLock number) .0
+  obey-plain (Transition target high low) = act-acted (Transition target high low) .0
+  obey-plain PowerUp = up-plain
+
+-- ---- lengths
+
+lengths-right : (map : Map) (l : Lent) → Lengths map l → rightLengths map l ≡ true
+unfolding rightLengths
+lengths-right map l h = and-both _ _ (and-both _ _ (eq-eqb _ _ (h .cells)) (eq-eqb _ _ (h .copy))) (eq-eqb _ _ (h .constants))
+
+right-lengths : (prims : Primitives) (map : Map) (l : Lent) → rightLengths map l ≡ true → Lengths map l
+right-lengths prims map l e = let h = lengths-of prims map l e in record { cells = h .0; copy = h .1; constants = h .2 }
+
+-- ---- constants
+
+pair-valid : (low up : ℕ) → ValidPair low up → pairValid low up ≡ true
+unfolding pairValid
+pair-valid low up p = and-both _ _ (and-both _ _ (ap not (ne-eqb low 0 (p .nonzero))) (ap not (ne-eqb low up (p .differs)))) (ap not (or-keeps low up (p .covered)))
+
+valid-pair : (low up : ℕ) → low < 65536 → pairValid low up ≡ true → ValidPair low up
+valid-pair low up l e = let p = pair low up e in record { nonzero = p .nonzero; differs = p .differs; covered = keeps-or low up l (p .covered) }
+
+pairs-valid : (k : List ℕ) → ValidPairs k → validConstants k ≡ true
+unfolding validConstants
+pairs-valid k v = and-both _ _ (all-below 24 _ (λ i l. pair-valid _ _ (v .counter i l))) (all-below 20 _ (λ i l. pair-valid _ _ (v .state i l)))
+
+valid-pairs : (k : List ℕ) → ((i : ℕ) → getD k i 0 < 65536) → validConstants k ≡ true → ValidPairs k
+unfolding validConstants
+valid-pairs k h e = record {
+  counter = λ i l. valid-pair _ _ (h (36 + i)) (all-at 24 (λ i. pairValid (constC k i) (constD k i)) (to-T (and-left (allBelow 24 (λ i. pairValid (constC k i) (constD k i))) _ e)) i l);
+  state = λ i l. valid-pair _ _ (h (84 + i)) (all-at 20 (λ i. pairValid (constA k i) (constB k i)) (to-T (and-right (allBelow 24 (λ i. pairValid (constC k i) (constD k i))) _ e)) i l);
+}
+
+-- ---- the order
+
+not-ready-phase : (p : Phase) → (p ≡ phase.Ready → ⊥) → isReady p ≡ false
+unfolding isReady
+not-ready-phase phase.Off n = refl
+not-ready-phase phase.Ready n = absurd (n refl)
+not-ready-phase phase.Inert n = refl
+not-ready-phase (phase.Dead reason) n = refl
+
+module _ (prims : Primitives) (map : Map) (m : Machine) (x : Command) where
+  wrong-length : (codeOf (answerTo prims map x m) ≡ 0x10) ↔ (Lengths map (m .lent) → ⊥)
+  unfolding step unchanged
+  wrong-length =
+      if-both (λ (s : Step). (codeOf (s .result .answer) ≡ 0x10) ↔ (Lengths map (m .lent) → ⊥)) (not (rightLengths map (m .lent))) _ _
+      (λ t. ((λ q h. true-not-false (lengths-right map (m .lent) h) (not-true _ t)), λ n. refl))
+      λ t. if-both (λ (s : Step). (codeOf (s .result .answer) ≡ 0x10) ↔ (Lengths map (m .lent) → ⊥)) (not (validConstants (m .lent .constants))) _ _
+      (λ u. ((λ q. absurd (omega (arith, q))), λ n. absurd (n (right-lengths prims map (m .lent) (not-false _ t)))))
+      (λ u. ((λ q. absurd (eqb-false _ _ (obey-plain prims map m x .0) q)), λ n. absurd (n (right-lengths prims map (m .lent) (not-false _ t)))))
+
+  wrong-constants : ((i : ℕ) → getD (m .lent .constants) i 0 < 65536) → Lengths map (m .lent)
+      → (codeOf (answerTo prims map x m) ≡ 0x12) ↔ (ValidPairs (m .lent .constants) → ⊥)
+  unfolding step unchanged
+  wrong-constants w h =
+      if-both (λ (s : Step). (codeOf (s .result .answer) ≡ 0x12) ↔ (ValidPairs (m .lent .constants) → ⊥)) (not (rightLengths map (m .lent))) _ _
+      (λ t. absurd (true-not-false (lengths-right map (m .lent) h) (not-true _ t)))
+      λ t. if-both (λ (s : Step). (codeOf (s .result .answer) ≡ 0x12) ↔ (ValidPairs (m .lent .constants) → ⊥)) (not (validConstants (m .lent .constants))) _ _
+      (λ u. ((λ q v. true-not-false (pairs-valid (m .lent .constants) v) (not-true _ u)), λ n. refl))
+      (λ u. ((λ q. absurd (eqb-false _ _ (obey-plain prims map m x .1) q)), λ n. absurd (n (valid-pairs (m .lent .constants) w (not-false _ u)))))
+
+  not-ready : Lengths map (m .lent) → ValidPairs (m .lent .constants) → notPowerUp x → (m .session .phase ≡ phase.Ready → ⊥)
+      → Says 0x07 0 (answerTo prims map x m) × (machineAfter prims map x m ≡ m)
+  unfolding act performed readyAct perform
+  not-ready h v u n =
+      let e = not-ready-phase (m .session .phase) n in
+      let q = judged-obeys prims map x m (lengths-right map (m .lent) h) (pairs-valid (m .lent .constants) v) ∙ obeys-act prims map x m (no-power-up prims map x u) in (
+        rw (q, answerTo) (if-both (λ (a : Act). Says 0x07 0 (perform a (m .lent .copy) (m .lent .cells) .answer)) (not (isReady (m .session .phase))) _ _
+            (λ t. (refl, refl)) (λ t. absurd (true-not-false (ap not e) t))),
+        step-not-ready prims map x m u e,
+      )
+
+  no-value : valued (codeOf (answerTo prims map x m)) ≡ false → (x ≡ PowerUp → ⊥) → valueOf (answerTo prims map x m) ≡ 0
+  unfolding step unchanged
+  no-value v n =
+      if-both (λ (s : Step). valued (codeOf (s .result .answer)) ≡ false → valueOf (s .result .answer) ≡ 0) (not (rightLengths map (m .lent))) _ _ (λ t e. refl)
+      (λ t. if-both (λ (s : Step). valued (codeOf (s .result .answer)) ≡ false → valueOf (s .result .answer) ≡ 0) (not (validConstants (m .lent .constants))) _ _ (λ u e. refl)
+      (λ u. rw (obeys-act prims map x m n) (act-acted prims map m x .1))) v
+
+module _ (prims : Primitives) (map : Map) where
+  up-value : (m : Machine)
+      → let code = codeOf (answerTo prims map PowerUp m) in
+      (eqb code 0x10 || eqb code 0x12) ≡ true → valueOf (answerTo prims map PowerUp m) ≡ 0
+  unfolding step unchanged obey
+  up-value m =
+      let Q : Step → Type 0 = λ s. (eqb (codeOf (s .result .answer)) 0x10 || eqb (codeOf (s .result .answer)) 0x12) ≡ true → valueOf (s .result .answer) ≡ 0 in
+      if-both Q (not (rightLengths map (m .lent))) _ _ (λ t e. refl)
+      (λ t. if-both Q (not (validConstants (m .lent .constants))) _ _ (λ u e. refl)
+      (λ u e. absurd (true-not-false e (rw (up-plain prims map m .0, up-plain prims map m .1) refl))))
+
+  pub order : Order prims map
+  order = record {
+    lengths = wrong-length prims map;
+    constants = wrong-constants prims map;
+    phases = λ m x w h v. not-ready prims map m x h v;
+    values = no-value prims map;
+    powerUpValues = up-value;
+  }
