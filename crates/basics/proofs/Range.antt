@@ -11,7 +11,7 @@ use lib.ListN.{length, getD, set, length-set}
 use lib.Seq.{sets, ext-getD, getD-set-same, getD-set-other}
 use borrow.Author.Tests.{eqb-true, eqb-false}
 use Rattle.basics.specs.Range.{allBelow, anyBelow, listed}
-use Rattle.basics.proofs.Choice.{by-cases, from-T, to-T, and-left, and-right, or-none-left, or-none-right}
+use Rattle.basics.proofs.Choice.{by-cases, from-T, to-T, and-left, and-right, or-none-left, or-none-right, true-not-false}
 
 -- a computed test at each number
 pub all-at : (n : ℕ) (test : ℕ → Bool) → T (allBelow n test) → (i : ℕ) → i < n → test i ≡ true
@@ -100,3 +100,19 @@ module _ {f : ℕ → ℕ} {n : ℕ} {xs : List ℕ} where
 
   pub follows-all : {i : ℕ} → Follows f n xs i → n ≤ i → xs ≡ listed f 0 n
   follows-all g h = is-listed f n xs (g .size) (λ k l. g .entry k (omega arith))
+
+-- a test that passes somewhere below, both ways
+pub record SomeBelow (n : ℕ) (test : ℕ → Bool) : Type 0 where
+  pub at : ℕ
+  pub below : at < n
+  pub holds : test at ≡ true
+
+pub some-at : (n : ℕ) (test : ℕ → Bool) (i : ℕ) → i < n → test i ≡ true → anyBelow n test ≡ true
+some-at n test i l e = by-cases (anyBelow n test) (λ t. t) (λ t. absurd (true-not-false e (none-at n test t i l)))
+
+pub at-some : (n : ℕ) (test : ℕ → Bool) → anyBelow n test ≡ true → SomeBelow n test
+unfolding anyBelow
+at-some zero test e = absurd (true-not-false e refl)
+at-some (suc n) test e =
+    by-cases (test n) (λ t. record { at = n; below = omega arith; holds = t })
+    (λ t. (let h = at-some n test (rw t at e) in record { at = h .at; below = omega (arith, h .below); holds = h .holds }))

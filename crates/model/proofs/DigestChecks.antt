@@ -175,13 +175,13 @@ module _ (prims : Primitives) (map : Map) (m : Machine) (a : ℕ) where
 
   -- where it is allowed, its act programs the digest
   allowed-act : Digestible prims map m a → readyAct prims map m (Digest a) ≡ program digestRule (partitionAt map a .digest / 2) (wordsOf 4 value) stay (say (Done value) stay)
-  unfolding readyAct commandAct digestAct partitionAt
+  unfolding readyAct commandAct digestAct partitionAt computedDigest digestStart digestFinal dataWords
   allowed-act d =
       if-false _ _ (ap not (d .ready)) ∙ if-false _ _ (lt-leb _ _ (d .below)) ∙ if-false _ _ (ap not (d .hardware)) ∙ if-false _ _ (ap not (eq-eqb _ _ (d .start)))
       ∙ if-false _ _ (d .notLocked)
 
   pub digest-only : codeOf (answerTo prims map (Digest a) m) ≡ 0x00 → Digestible prims map m a
-  unfolding unchanged obey act performed readyAct commandAct digestAct perform partitionAt
+  unfolding unchanged obey act performed readyAct commandAct digestAct perform partitionAt computedDigest digestStart digestFinal dataWords
   digest-only =
       let Q : Act → Type 0 = λ x. codeOf (perform x (m .lent .copy) (m .lent .cells) .answer) ≡ 0x00 → Digestible prims map m a in
       step-both prims map (λ (s : Step). codeOf (s .result .answer) ≡ 0x00 → Digestible prims map m a) (Digest a) m (λ answer e z. absurd (true-not-false e (rw z)))
@@ -210,6 +210,7 @@ module _ (prims : Primitives) (map : Map) (m : Machine) (a : ℕ) where
 
     module _ (G : DigestFits prims) (w : CellsFit m) where
       fits : value < 2 ^ 64
+      unfolding computedDigest digestStart digestFinal dataWords
       fits = digest-small prims G map m r w (partition map (numberAt map a))
 
       pub digest-stored : storedDigest (partitionAt map a) (machineAfter prims map (Digest a) m .lent .cells) ≡ value

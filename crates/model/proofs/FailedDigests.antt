@@ -30,17 +30,17 @@ use Rattle.model.specs.Commands.{storedDigest, writeAct, commandAct, rea
 use Rattle.model.specs.PowerUp.{Waking, digestHolds, firstFailing, verdictOf, lifeCycleIn, lifeCycleWaking, wakingOf, waking, wokenAnswer}
 use Rattle.model.specs.Step.{Step, unchanged, performed, act, powerUp, obey, after, machineAfter, answerTo}
 use Rattle.model.specs.Claims.Terms.{Right, Digested, notPowerUp, NoPowerUp, DigestFits, CellsFit}
-use Rattle.model.specs.Claims.Digests.{writes, computes, sparesData}
+use Rattle.model.specs.Claims.Digests.{writes, computes, sparesData, Digestible, SparedData}
 use Rattle.model.specs.Claims.FailedPowerUps.{WrittenAfterDigest}
 use Rattle.model.proofs.Frame.{not-locked}
-use Rattle.model.proofs.Steps.{step-both, step-up, step-right, step-constants, after-right, obeys-act}
+use Rattle.model.proofs.Steps.{step-both, step-up, step-right, step-constants, after-right, obeys-act, after-constants}
 use Rattle.model.proofs.Locks.{sensed-stored, turned-sensed, turned-ready}
 use Rattle.model.proofs.Digests.{Change, kept, puts, step-changes}
 use Rattle.model.proofs.Refusals.{power-ups-refuse}
 use Rattle.model.proofs.NotReady.{no-power-up}
 use Rattle.model.proofs.Since.{first-since, up-held}
 use Rattle.model.proofs.WordSizes.{step-small}
-use Rattle.model.proofs.DigestChecks.{zero-holds, step-holds}
+use Rattle.model.proofs.DigestChecks.{zero-holds, step-holds, digest-checks}
 
 none-not-some : (n : ℕ) → some n ≡ none → ⊥
 none-not-some n e = true-not-false refl (ap (λ (o : Option ℕ). is-some o) e)
@@ -390,3 +390,16 @@ module _ (prims : Primitives) (map : Map) (F : fit map ≡ true) where
       let first : digestHolds prims (m .lent .constants) (m .lent .cells) (partition map n) ≡ true =
       none-fails prims (m .lent .constants) (m .lent .cells) 0 map (rw (step-constants prims map PowerUp m) at (s .checked)) n in
       both prims map F n D hard G l .0 m₀ r₀ (step-small prims map PowerUp m r (record { small = w }) .small) (power-good prims map F n D hard G m r first) bad
+
+  -- from a digest command on, while its data are not written
+  pub digest-passes : DigestFits prims → (m : Machine) → Right map m → CellsFit m → (a : ℕ) → Digestible prims map m a → (l : List Command)
+      → SparedData prims map (numberAt map a) l (machineAfter prims map (Digest a) m)
+      → answerTo prims map PowerUp (after prims map l (machineAfter prims map (Digest a) m)) ≡ DigestFailed (numberAt map a) → ⊥
+  unfolding partition partitionAt
+  digest-passes G m r w a d l s e =
+      let m₀ = machineAfter prims map (Digest a) m in
+      let m₁ = after prims map l m₀ in
+      let f = up-failing m₁ (after-right prims map l m₀ (step-right prims map (Digest a) m r)) (numberAt map a) e in
+      let is : f .index ≡ numberAt map a = omega (arith, f .is) in
+      let k : m₁ .lent .constants ≡ m .lent .constants = after-constants prims map l m₀ ∙ step-constants prims map (Digest a) m in
+      true-not-false (digest-checks prims map m a F r d G w l s) (rw (is, k) at (f .fails))

@@ -1,3 +1,4 @@
+pub mod KindNames
 pub mod Acts
 pub mod Programs
 pub mod Transitions
@@ -16,11 +17,14 @@ pub mod Deaths
 pub mod Quiet
 pub mod LeftOut
 pub mod NotReady
+pub mod ReadCodes
+pub mod Places
 pub mod LifeCycleWords
 pub mod Since
 pub mod Writes
 pub mod WriteCodes
 pub mod OldRule
+pub mod StoredWords
 pub mod Chips
 pub mod TransitionEnds
 pub mod TransitionCells

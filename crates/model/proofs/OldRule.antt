@@ -43,11 +43,11 @@ use Rattle.words.specs.declared.Programmed.the-variants as programmed
 
 -- ---- the rule of a place
 
-auth-state-old : (p : Partition) (a : ℕ) → p .kind ≡ AuthState → a < p .digest → directRule p a ≡ KeepBits
+pub auth-state-old : (p : Partition) (a : ℕ) → p .kind ≡ AuthState → a < p .digest → directRule p a ≡ KeepBits
 unfolding directRule rightsOf inDigest
 auth-state-old p a k d = if-true _ _ (and-both (rightsOf (p .kind) .additive) _ (rw k refl) (ap not (lt-leb _ _ d)))
 
-old-auth-state : (p : Partition) (a : ℕ) → directRule p a ≡ KeepBits → (p .kind ≡ AuthState) × (a < p .digest)
+pub old-auth-state : (p : Partition) (a : ℕ) → directRule p a ≡ KeepBits → (p .kind ≡ AuthState) × (a < p .digest)
 unfolding directRule inDigest
 old-auth-state p a e =
     by-cases (rightsOf (p .kind) .additive && not (inDigest p a))

@@ -28,6 +28,7 @@ use Rattle.model.proofs.SecondBurns.{found-blank, no-second-burn, granu
 use Rattle.model.proofs.Writes.{write-taken, reads-back, reads-last}
 use Rattle.model.proofs.WriteCodes.{write-exact, write-allowed}
 use Rattle.model.proofs.OldRule.{old-rule}
+use Rattle.model.proofs.StoredWords.{write-stores, blank-lowest, cleared-lowest}
 use Rattle.model.proofs.Chips.{two-chips}
 use Rattle.model.proofs.Digests.{whole-digests}
 use Rattle.model.proofs.Courses.{never-four, courses-run, counts}
@@ -40,8 +41,8 @@ use Rattle.model.proofs.PowerUps.{alone, again, cleared, failed}
 use Rattle.model.proofs.FrontReads.{fronts, device-final}
 use Rattle.model.proofs.Quiet.{after-unsensed}
 use Rattle.model.proofs.ReadLocks.{locks-last, lock-others, lock-says-nothing}
-use Rattle.model.proofs.DigestChecks.{digest-exact, digest-done, digest-only, digest-stored, digest-checks}
-use Rattle.model.proofs.FailedDigests.{sixes}
+use Rattle.model.proofs.DigestChecks.{digest-exact, digest-done, digest-only, digest-stored}
+use Rattle.model.proofs.FailedDigests.{sixes, digest-passes}
 use Rattle.model.proofs.FailedLifeCycles.{sevens}
 use Rattle.model.proofs.Everything.{everything}
 
@@ -74,6 +75,9 @@ burns prims C map F = record {
   refused = refused-named prims map;
   locked = locked-denied prims map;
   exactly = λ m r ready a value. write-exact prims map m a value r ready;
+  stores = write-stores prims map F;
+  blanks = blank-lowest map;
+  clearedBits = cleared-lowest map;
   allowed = write-allowed prims C map F;
   lasting = reads-last prims C map F;
 }
@@ -99,7 +103,7 @@ digests prims G map F = record {
   exactly = λ m r a. digest-exact prims map m a F r;
   done = λ m r a z. digest-done prims map m a F r (digest-only prims map m a z);
   stored = λ m r w a z. digest-stored prims map m a F r (digest-only prims map m a z) G w;
-  checks = λ m r w a z. digest-checks prims map m a F r (digest-only prims map m a z) G w;
+  checks = λ m r w a z. digest-passes prims map F G m r w a (digest-only prims map m a z);
   whole = λ m r n D l. whole-digests prims map F n D l m r;
 }
 

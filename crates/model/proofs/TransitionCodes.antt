@@ -3,15 +3,17 @@ use mathlib.Core.Path.{_≡_, refl, sym, ap, _∙_}
 use mathlib.Core.Bool.{Bool, true, false}
 use mathlib.Core.List.{List}
 use mathlib.Core.Logic.{_↔_, _⊎_, ⊎-elim}
-use Prim.Native.Nat.{ℕ, suc, _+_, _*_, _^_, _≤_, _<_}
+use Prim.Native.Nat.{ℕ, suc, _+_, _/_, _*_, _^_, _≤_, _<_}
 use native.Mathlib.Omega.{arith}
 use lib.Dec.{eqb}
-use borrow.Author.Tests.{eqb-false}
+use borrow.Author.Tests.{eqb-false, eq-eqb, ne-eqb}
 use Rattle.basics.specs.Choice.{if_then_else_}
 use Rattle.basics.proofs.Choice.{true-not-false, if-true, if-false}
 use Rattle.words.specs.Programming.{programAnswer}
 use Rattle.words.proofs.Programming.{refused-not-done, program-elsewhere, answer-same}
-use Rattle.partitions.specs.Map.{Map, numberOfKind}
+use Rattle.partitions.specs.declared.Kind.{Kind}
+use Rattle.partitions.specs.declared.Kind.the-variants as kind
+use Rattle.partitions.specs.Map.{partition, Map, numberOfKind}
 use Rattle.life_cycle.specs.declared.Token.{Token}
 use Rattle.life_cycle.specs.declared.Token.the-variants.{Nothing, RawUnlock, TestUnlock, TestExit, Rma}
 use Rattle.life_cycle.specs.declared.Entry.{Entry}
@@ -22,12 +24,13 @@ use Rattle.life_cycle.proofs.Encoding.{counter-length}
 use Rattle.model.specs.declared.Answer.{Answer}
 use Rattle.model.specs.declared.Command.the-variants.{Transition}
 use Rattle.model.specs.Answers.{codeOf}
-use Rattle.model.specs.Session.{sensedLocked}
+use Rattle.model.specs.Session.{sensedLocked, sensedAt}
 use Rattle.model.specs.Lent.{Machine, Primitives, rawUnlockHash}
 use Rattle.model.specs.Commands.{lifeCycleRule, tokenKind, hashesTo, storedToken, counterAt, stateAt}
 use Rattle.model.specs.Step.{answerTo}
+use Rattle.model.specs.Claims.Numbers.{Agrees, eightFrom}
 use Rattle.model.specs.Claims.Refusals.{early}
-use Rattle.model.specs.Claims.Transitions.{Stops, counterRefused, stateRefused, strokeWords, Compared, Asked, strokeOnly, isStored, Fair, Unlocked}
+use Rattle.model.specs.Claims.Transitions.{Stops, counterRefused, stateRefused, strokeWords, Compared, Asked, strokeOnly, Fair, Unlocked, testUnlock, testExit, rma, Stored}
 use Rattle.model.proofs.TransitionEnds.{struck, move, Ending, unknownTarget, used, counterStops, notInTable, tokenNotLocked, tokenDiffers, stateStops, moved, Room, step-ends}
 use Rattle.words.specs.declared.Programmed.the-variants as programmed
 
@@ -37,16 +40,17 @@ module _ (prims : Primitives) (map : Map) (m : Machine) (target given : ℕ) whe
   sameCode true = 0x00
   sameCode false = 0x23
 
-  storedCode : Token → ℕ
-  storedCode token =
-      if sensedLocked (m .session) (numberOfKind map (tokenKind token)) then sameCode (hashesTo prims given (storedToken map token (m .lent .copy))) else 0x22
+  storedCode : Kind → ℕ → ℕ
+  storedCode k offset =
+      if eqb (sensedAt (m .session) (numberOfKind map k)) 0 then 0x22
+      else sameCode (eqb (prims .hash given) (eightFrom (m .lent .copy) (partition map (numberOfKind map k) .start / 2 + offset)))
 
   tokenCode : Token → ℕ
   tokenCode Nothing = 0x00
-  tokenCode RawUnlock = sameCode (hashesTo prims given (rawUnlockHash (m .lent .constants)))
-  tokenCode TestUnlock = storedCode TestUnlock
-  tokenCode TestExit = storedCode TestExit
-  tokenCode Rma = storedCode Rma
+  tokenCode RawUnlock = sameCode (eqb (prims .hash given) (eightFrom (m .lent .constants) 124))
+  tokenCode TestUnlock = storedCode kind.Secret0 0
+  tokenCode TestExit = storedCode kind.Secret0 8
+  tokenCode Rma = storedCode kind.Secret2 0
 
   entryCode : Entry → ℕ
   entryCode Forbidden = 0x21
@@ -59,25 +63,31 @@ module _ (prims : Primitives) (map : Map) (m : Machine) (target given : ℕ) whe
   unfolding entryCode
   forbidden-due e = rw e
 
-  open-code : (token : Token) → isStored token ≡ true → sensedLocked (m .session) (numberOfKind map (tokenKind token)) ≡ false → tokenCode token ≡ 0x22
-  unfolding tokenCode storedCode
-  open-code Nothing s e = absurd (true-not-false s refl)
-  open-code RawUnlock s e = absurd (true-not-false s refl)
-  open-code TestUnlock s e = if-false _ _ e
-  open-code TestExit s e = if-false _ _ e
-  open-code Rma s e = if-false _ _ e
+  open-code : (k : Kind) (offset : ℕ) → sensedAt (m .session) (numberOfKind map k) ≡ 0 → storedCode k offset ≡ 0x22
+  unfolding storedCode
+  open-code k offset e = if-true _ _ (eq-eqb _ 0 e)
 
   open-due : Unlocked prims map m target → due ≡ 0x22
-  unfolding entryCode
-  open-due u = rw (u .allowed) (open-code (u .token) (u .stored) (u .notLocked))
+  unfolding entryCode tokenCode
+  open-due (testUnlock a e) = rw a (open-code kind.Secret0 0 e)
+  open-due (testExit a e) = rw a (open-code kind.Secret0 8 e)
+  open-due (rma a e) = rw a (open-code kind.Secret2 0 e)
+
+  agrees-code : (x y : ℕ) (same : Bool) → Agrees x y same → sameCode (eqb x y) ≡ sameCode same
+  agrees-code x y true e = ap sameCode (eq-eqb x y e)
+  agrees-code x y false e = ap sameCode (ne-eqb x y e)
+
+  stored-code : (k : Kind) (offset : ℕ) (same : Bool) → Stored prims map m given same k offset → storedCode k offset ≡ sameCode same
+  unfolding storedCode
+  stored-code k offset same e = if-false _ _ (ne-eqb _ 0 (e .0)) ∙ agrees-code _ _ same (e .1)
 
   compared-code : (token : Token) (same : Bool) → Compared prims map m given same token → tokenCode token ≡ sameCode same
-  unfolding tokenCode storedCode sameCode
+  unfolding tokenCode sameCode
   compared-code Nothing same e = rw e
-  compared-code RawUnlock same e = rw e
-  compared-code TestUnlock same e = if-true _ _ (e .0) ∙ ap sameCode (e .1)
-  compared-code TestExit same e = if-true _ _ (e .0) ∙ ap sameCode (e .1)
-  compared-code Rma same e = if-true _ _ (e .0) ∙ ap sameCode (e .1)
+  compared-code RawUnlock same e = agrees-code _ _ same e
+  compared-code TestUnlock same e = stored-code kind.Secret0 0 same e
+  compared-code TestExit same e = stored-code kind.Secret0 8 same e
+  compared-code Rma same e = stored-code kind.Secret2 0 same e
 
   asked-due : (same : Bool) → Asked prims map m target given same → due ≡ sameCode same
   unfolding entryCode

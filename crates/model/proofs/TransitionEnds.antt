@@ -1,16 +1,16 @@
 -- The ends of a transition. The idea: past the early refusals it has eight ends, each with what led to it and the cells that it leaves; whatever is claimed of its
 -- answers is read off the list of ends.
-use mathlib.Core.Path.{_≡_, refl}
+use mathlib.Core.Path.{_≡_, refl, sym}
 use mathlib.Core.Bool.{Bool, true, false, not}
 use mathlib.Core.List.{List}
 use mathlib.Core.Logic.{_⊎_, inl, inr, ⊎-elim}
 use Prim.Native.Nat.{ℕ, _+_, _*_, _^_, _≤_, _<_}
 use lib.Dec.{eqb, leb, ltb}
-use borrow.Author.Tests.{eqb-true, not-false, not-true, leb-true, leb-false, ltb-true, ltb-false, le-leb}
+use borrow.Author.Tests.{eqb-true, not-false, not-true, leb-true, leb-false, ltb-true, ltb-false, le-leb, eqb-false}
 use Rattle.basics.specs.Choice.{if_then_else_}
 use Rattle.basics.proofs.Choice.{true-not-false, by-cases, if-both, and-both}
 use Rattle.words.specs.Programming.{programAnswer, programCells}
-use Rattle.partitions.specs.Map.{Map}
+use Rattle.partitions.specs.Map.{Map, numberOfKind}
 use Rattle.life_cycle.specs.declared.Token.{Token}
 use Rattle.life_cycle.specs.declared.Token.the-variants.{Nothing, RawUnlock, TestUnlock, TestExit, Rma}
 use Rattle.life_cycle.specs.declared.Entry.{Entry}
@@ -22,16 +22,22 @@ use Rattle.model.specs.declared.Answer.{Answer}
 use Rattle.model.specs.declared.Answer.the-variants.{Done, NotBlank, NotReady, UnknownTarget, StrokesUsed, NotInTable, TokenNotLocked, TokenDiffers}
 use Rattle.model.specs.declared.Command.the-variants.{Transition}
 use Rattle.model.specs.Answers.{codeOf}
-use Rattle.model.specs.Session.{isReady}
-use Rattle.model.specs.Lent.{Machine, Primitives, rightLengths}
+use Rattle.model.specs.Session.{isReady, sensedLocked, sensedAt}
+use Rattle.model.specs.Lent.{Machine, Primitives, rightLengths, rawUnlockHash}
 use Rattle.model.specs.Acts.{Act, say, program, compare, Performed, perform, noting, stay, halt, die}
-use Rattle.model.specs.Commands.{lifeCycleRule, counterAt, stateAt, moveAct, lockedTokenAct, tokenAct, entryAct, transitionAct, commandAct, readyAct}
+use Rattle.model.specs.Commands.{lifeCycleRule, counterAt, stateAt, moveAct, lockedTokenAct, tokenAct, entryAct, transitionAct, commandAct, readyAct, tokenKind, hashesTo, tokenOffset, storedToken}
 use Rattle.model.specs.Step.{Step, unchanged, performed, act, obey, step, machineAfter, answerTo}
+use Rattle.model.specs.Claims.Numbers.{Agrees}
 use Rattle.model.specs.Claims.Refusals.{early}
-use Rattle.model.specs.Claims.Transitions.{Stored, Compared, Asked, strokeOnly, isStored, strokeWords, Fair, Unlocked}
+use Rattle.model.specs.Claims.Transitions.{Stored, Compared, Asked, strokeOnly, testUnlock, testExit, rma, strokeWords, Fair, Unlocked}
 use Rattle.model.proofs.Acts.{after-both}
 use Rattle.model.proofs.Steps.{outcome}
 use Rattle.words.specs.declared.Programmed.the-variants as programmed
+
+-- a comparison, as numbers that are equal or not
+agreed : (x y : ℕ) (same : Bool) → eqb y x ≡ same → Agrees x y same
+agreed x y true e = sym (eqb-true y x e)
+agreed x y false e = λ q. eqb-false y x e (sym q)
 
 -- an early code is none of those after the stroke
 pub clash : (code : ℕ) → early code ≡ true → strokeOnly code ≡ true → ⊥
@@ -90,23 +96,24 @@ module _ (prims : Primitives) (map : Map) (m : Machine) (target given : ℕ) whe
       if-both Ends (test copy) _ _ (λ s. moves t (record { token = token; allowed = e; compared = h true s }))
       (λ s. tokenDiffers t (record { token = token; allowed = e; compared = h false s }) refl refl)
 
-  locked : (token : Token) → isStored token ≡ true → transition (m .session .state) target ≡ Allowed token
-      → ((same : Bool) → Stored prims map m given same token → Compared prims map m given same token) → Taken
+  locked : (token : Token) → transition (m .session .state) target ≡ Allowed token
+      → (sensedAt (m .session) (numberOfKind map (tokenKind token)) ≡ 0 → Unlocked prims map m target)
+      → ((same : Bool) → Stored prims map m given same (tokenKind token) (tokenOffset token) → Compared prims map m given same token) → Taken
       → Ends (perform (lockedTokenAct prims map m token target given) copy struck)
-  unfolding lockedTokenAct
-  locked token i e h t =
+  unfolding lockedTokenAct sensedLocked hashesTo storedToken
+  locked token e zero h t =
       if-both (λ (a : Act). Ends (perform a copy struck)) _ _ _
-      (λ s. unfold perform in (tokenNotLocked t (record { token = token; allowed = e; stored = i; notLocked = not-true _ s }) refl refl))
-      (λ s. compares token e _ (λ same q. h same (not-false _ s, q)) t)
+      (λ s. unfold perform in (tokenNotLocked t (zero (eqb-true _ 0 (not-false _ (not-true _ s)))) refl refl))
+      (λ s. compares token e _ (λ same q. h same (eqb-false _ 0 (not-true _ (not-false _ s)), agreed _ _ same q)) t)
 
   asks : (entry : Entry) → transition (m .session .state) target ≡ entry → Taken → Ends (perform (entryAct prims map m entry target given) copy struck)
-  unfolding entryAct tokenAct
+  unfolding entryAct tokenAct tokenKind tokenOffset hashesTo rawUnlockHash
   asks Forbidden e t = unfold perform in (notInTable t e refl refl)
   asks (Allowed Nothing) e t = moves t (record { token = Nothing; allowed = e; compared = refl })
-  asks (Allowed RawUnlock) e t = compares RawUnlock e _ (λ same s. s) t
-  asks (Allowed TestUnlock) e t = locked TestUnlock refl e (λ same s. s) t
-  asks (Allowed TestExit) e t = locked TestExit refl e (λ same s. s) t
-  asks (Allowed Rma) e t = locked Rma refl e (λ same s. s) t
+  asks (Allowed RawUnlock) e t = compares RawUnlock e _ (λ same s. agreed _ _ same s) t
+  asks (Allowed TestUnlock) e t = locked TestUnlock e (testUnlock e) (λ same s. s) t
+  asks (Allowed TestExit) e t = locked TestExit e (testExit e) (λ same s. s) t
+  asks (Allowed Rma) e t = locked Rma e (rma e) (λ same s. s) t
 
   strikes : Room → Ends (perform (program lifeCycleRule (counterAt map) stroke die (entryAct prims map m (transition (m .session .state) target) target given)) copy cells₀)
   unfolding perform

@@ -26,10 +26,11 @@ use Rattle.model.specs.Lent.{Machine, Primitives}
 use Rattle.model.specs.Acts.{Act, perform}
 use Rattle.model.specs.Commands.{directRule, writeAct, commandAct, readyAct}
 use Rattle.model.specs.Step.{act, performed, obey, after, machineAfter, answerTo}
-use Rattle.model.specs.Claims.Terms.{Right, Cipher, Digested, storedWords, Allowed}
+use Rattle.model.specs.Claims.Terms.{Right, Says, Cipher, Digested, storedWords, Allowed}
 use Rattle.model.specs.Claims.Demand3.{Ready}
 use Rattle.model.specs.Claims.Sensing.{Since}
 use Rattle.model.specs.Claims.Burns.{WriteDenied, past, inLifeCycle, inHardwareDigest, locked}
+use Rattle.model.proofs.KindNames.{hardware-kind, kind-hardware}
 use Rattle.model.proofs.Acts.{after-both}
 use Rattle.model.proofs.Steps.{step-obeys, after-right, after-constants, step-constants}
 use Rattle.model.proofs.Since.{first-since, after-since, since-sensed}
@@ -58,22 +59,22 @@ module _ (prims : Primitives) (map : Map) (m : Machine) (a value : ℕ) where
 
   -- there is then no reason for a 5
   not-denied : Passed → WriteDenied prims map m a → ⊥
-  unfolding rightsOf
+  unfolding rightsOf inDigest
   not-denied p (past q) = true-not-false (le-leb _ _ q) (p .below)
   not-denied p (inLifeCycle q) = true-not-false (p .direct) (rw q refl)
-  not-denied p (inHardwareDigest q r) = true-not-false (and-both _ _ q r) (p .soft)
+  not-denied p (inHardwareDigest q r) = true-not-false (and-both _ _ (kind-hardware q) (le-leb _ _ r)) (p .soft)
   not-denied p (locked q) = q (p .zero)
 
   abbrev Ends : Act → Type 0
   Ends x = WriteEnd (perform x (m .lent .copy) (m .lent .cells) .answer)
 
   write-ends : Ends (writeAct prims map m a value)
-  unfolding writeAct perform sensedLocked
+  unfolding writeAct perform sensedLocked inDigest
   write-ends =
       if-both Ends (leb (limit map) a) _ _ (λ t. denied (past (leb-true _ _ t)) refl)
       λ l. if-both Ends (not (rightsOf (partitionAt map a .kind) .direct)) _ _ (λ t. denied (inLifeCycle (life-cycle-only _ (not-true _ t))) refl)
       λ d. if-both Ends (rightsOf (partitionAt map a .kind) .hardware && inDigest (partitionAt map a) a) _ _
-      (λ t. denied (inHardwareDigest (and-left (rightsOf (partitionAt map a .kind) .hardware) _ t) (and-right (rightsOf (partitionAt map a .kind) .hardware) _ t)) refl)
+      (λ t. denied (inHardwareDigest (hardware-kind _ (and-left (rightsOf (partitionAt map a .kind) .hardware) _ t)) (leb-true _ _ (and-right (rightsOf (partitionAt map a .kind) .hardware) _ t))) refl)
       λ h. if-both Ends (sensedLocked (m .session) (numberAt map a)) _ _ (λ t. denied (locked (λ z. true-not-false t (ap not (eq-eqb _ 0 z)))) refl)
       λ s. (let p : Passed = record { below = l; direct = not-false _ d; soft = h; zero = eqb-true _ 0 (not-false _ s) } in
       after-both (λ r. WriteEnd (r .answer)) _ _ _ (λ e. done p e refl) (λ i e. stops p e refl))
@@ -84,32 +85,28 @@ module _ (prims : Primitives) (map : Map) (m : Machine) (a value : ℕ) where
   Exact answer =
       let p = partitionAt map a in
       let words = storedWords prims map (m .lent .constants) a value in
-      ((answer ≡ Denied) ↔ WriteDenied prims map m a)
-      × ((i : ℕ) → (answer ≡ NotBlank i) ↔ ((WriteDenied prims map m a → ⊥) × Lowest (directRule p a) (m .lent .cells) (firstWord p a) words i))
-      × ((answer ≡ Done 0) ↔ ((WriteDenied prims map m a → ⊥) × Takes programmed.Done))
-
-  -- answers of two codes differ
-  apart : {x y : Answer} {answer : Answer} → eqb (codeOf x) (codeOf y) ≡ false → answer ≡ x → answer ≡ y → ⊥
-  apart n e f = eqb-false _ _ n (ap codeOf (sym e ∙ f))
+      (Says 0x05 0 answer ↔ WriteDenied prims map m a)
+      × ((i : ℕ) → Says 0x04 i answer ↔ ((WriteDenied prims map m a → ⊥) × Lowest (directRule p a) (m .lent .cells) (firstWord p a) words i))
+      × (Says 0x00 0 answer ↔ ((WriteDenied prims map m a → ⊥) × Takes programmed.Done))
 
   exact : {answer : Answer} → WriteEnd answer → Exact answer
-  exact (denied d e) = (
-    ((λ q. d), λ q. e),
-    (λ i. ((λ q. absurd (apart {x = Denied} {y = NotBlank i} refl e q)), λ q. absurd (q .0 d))),
-    ((λ q. absurd (apart {x = Denied} {y = Done 0} refl e q)), λ q. absurd (q .0 d)),
+  exact (denied d e) = rw e (
+    ((λ q. d), λ q. (refl, refl)),
+    (λ i. ((λ q. absurd (omega (arith, q .0))), λ q. absurd (q .0 d))),
+    ((λ q. absurd (omega (arith, q .0))), λ q. absurd (q .0 d)),
   )
-  exact (stops {i = k} p t e) = (
-    ((λ q. absurd (apart {x = NotBlank k} {y = Denied} refl e q)), λ q. absurd (not-denied p q)),
-    (λ i. ((λ q. (not-denied p, refused-lowest _ _ _ _ i (t ∙ ap programmed.Refused (ap valueOf (sym e ∙ q))))), λ q. e ∙ ap NotBlank (same-word i (q .1)))),
-    ((λ q. absurd (apart {x = NotBlank k} {y = Done 0} refl e q)), λ q. absurd (refused-not-done (sym t ∙ q .1))),
+  exact (stops {i = k} p t e) = rw e (
+    ((λ q. absurd (omega (arith, q .0))), λ q. absurd (not-denied p q)),
+    (λ i. ((λ q. (not-denied p, refused-lowest _ _ _ _ i (t ∙ ap programmed.Refused (q .1)))), λ q. (refl, same-word i (q .1)))),
+    ((λ q. absurd (omega (arith, q .0))), λ q. absurd (refused-not-done (sym t ∙ q .1))),
   )
     where
       same-word : (i : ℕ) → Lowest (directRule (partitionAt map a) a) (m .lent .cells) (firstWord (partitionAt map a) a) (storedWords prims map (m .lent .constants) a value) i → k ≡ i
       same-word i q = let z : programmed.Refused k ≡ programmed.Refused i = sym t ∙ lowest-refused _ _ _ _ i q in cc
-  exact (done p t e) = (
-    ((λ q. absurd (apart {x = Done 0} {y = Denied} refl e q)), λ q. absurd (not-denied p q)),
-    (λ i. ((λ q. absurd (apart {x = Done 0} {y = NotBlank i} refl e q)), λ q. absurd (refused-not-done (sym (lowest-refused _ _ _ _ i (q .1)) ∙ t)))),
-    ((λ q. (not-denied p, t)), λ q. e),
+  exact (done p t e) = rw e (
+    ((λ q. absurd (omega (arith, q .0))), λ q. absurd (not-denied p q)),
+    (λ i. ((λ q. absurd (omega (arith, q .0))), λ q. absurd (refused-not-done (sym (lowest-refused _ _ _ _ i (q .1)) ∙ t)))),
+    ((λ q. (not-denied p, t)), λ q. (refl, refl)),
   )
 
   ready-ends : Right map m → isReady (m .session .phase) ≡ true → WriteEnd (answerTo prims map (Write a value) m)

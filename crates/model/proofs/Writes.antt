@@ -46,7 +46,7 @@ use Rattle.partitions.specs.declared.Kind.the-variants as kind
 
 -- ---- either rule
 
-by-rule {ℓ} : {X : Type ℓ} → (r : Rule) → (r ≡ KeepBits → X) → (r ≡ BlankOnly → X) → X
+pub by-rule {ℓ} : {X : Type ℓ} → (r : Rule) → (r ≡ KeepBits → X) → (r ≡ BlankOnly → X) → X
 by-rule KeepBits f g = f refl
 by-rule BlankOnly f g = g refl
 

@@ -1,6 +1,6 @@
 -- Laws of granules. The idea: a granule has 4 or 8 bytes, and starts, digests and ends stand at multiples of 8, so it lies on one side of each of them.
 use mathlib.Core.Path.{_≡_, refl, sym, ap, _∙_}
-use mathlib.Core.Bool.{true, _||_}
+use mathlib.Core.Bool.{true, _||_, false}
 use Prim.Native.Nat.{ℕ, _+_, _*_, _/_, _≤_, _<_}
 use native.Mathlib.Omega.{arith}
 use lib.Dec.{leb}
@@ -30,6 +30,15 @@ unfolding if_then_else_
 granule-scrambled {p} f e a = granule-size f a ∙ rw e (by-cases (inDigest p a) (λ d. rw d) (λ d. rw d))
 
 -- it may differ between data and digest, and nowhere else
+-- a digest has 8 bytes, and data that are not scrambled have granules of 4
+pub granule-digest : (p : Partition) (a : ℕ) → inDigest p a ≡ true → granuleAt p a ≡ 8
+unfolding granuleAt
+granule-digest p a e = if-true _ _ e
+
+pub granule-plain : {p : Partition} → FitPartition p → rightsOf (p .kind) .scrambled ≡ false → (a : ℕ) → inDigest p a ≡ false → granuleAt p a ≡ 4
+unfolding granuleAt
+granule-plain f s a e = if-false _ _ e ∙ f .sized ∙ if-false _ _ s
+
 pub granule-side : (p : Partition) (a b : ℕ) → inDigest p a ≡ inDigest p b → granuleAt p a ≡ granuleAt p b
 unfolding granuleAt
 granule-side p a b e = rw e

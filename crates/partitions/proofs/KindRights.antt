@@ -91,3 +91,14 @@ life-cycle-only Secret0 e = absurd (true-not-false refl e)
 life-cycle-only Secret1 e = absurd (true-not-false refl e)
 life-cycle-only Secret2 e = absurd (true-not-false refl e)
 life-cycle-only LifeCycle e = refl
+
+-- without a hardware digest and with direct access there is a read lock
+pub soft-lockable : (k : Kind) → rightsOf k .direct ≡ true → rightsOf k .hardware ≡ false → rightsOf k .lockable ≡ true
+unfolding rightsOf
+soft-lockable Software d e = refl
+soft-lockable AuthState d e = refl
+soft-lockable HwCfg d e = absurd (true-not-false refl e)
+soft-lockable Secret0 d e = absurd (true-not-false refl e)
+soft-lockable Secret1 d e = absurd (true-not-false refl e)
+soft-lockable Secret2 d e = absurd (true-not-false refl e)
+soft-lockable LifeCycle d e = absurd (true-not-false d refl)

@@ -4,7 +4,7 @@ ghost use mathlib.Core.Path.{_≡_};
 ghost use Prim.Native.Nat.{_+_, _≤_, _<_};
 ghost use lib.ListN.{length};
 ghost use Rattle.script.specs.Records.{kindOf, bodyLength, numberAt, commandAt, refusalCode, nextAt, placeAfter};
-ghost use Rattle.script.specs.Reader.{newReader, readerNext, advancedReader};
+ghost use Rattle.script.specs.Reader.{readerNext, advancedReader};
 ghost use Rattle.script.specs.Lines.{digitByte, digits, lineOf, decimal, endLineOf};
 
 // The kinds of records.
@@ -137,7 +137,7 @@ fn command_at(script: &[u8], kind: u8, at: usize) -> Command
 }
 
 // What stands at a place of a script.
-pub fn next_at(script: &[u8], place: usize) -> Reading
+fn next_at(script: &[u8], place: usize) -> Reading
     ensures { λ r. ⌜ r ≡ nextAt (now (script .entry)) place ⌝ }
 {
     if LONGEST < script.len() {
@@ -158,7 +158,7 @@ pub fn next_at(script: &[u8], place: usize) -> Reading
 }
 
 // The place after the record at a place: neither the end nor a refusal moves it.
-pub fn place_after(script: &[u8], place: usize) -> usize
+fn place_after(script: &[u8], place: usize) -> usize
     ensures { λ r. ⌜ r ≡ placeAfter (nextAt (now (script .entry)) place) place ⌝ }
 {
     let Reading::Record(_, next) = next_at(script, place) else {
@@ -174,13 +174,6 @@ pub struct Reader<'a> {
 }
 
 impl<'a> Reader<'a> {
-    // A reader at the start of a script.
-    pub fn new(script: &'a [u8]) -> Reader<'a>
-        ensures { λ r. ⌜ r ≡ newReader (script .entry) ⌝ }
-    {
-        Reader { script, place: 0 }
-    }
-
     // What stands at its place.
     pub fn next(self) -> Reading
         ensures { λ r. ⌜ r ≡ readerNext (self .entry) ⌝ }
@@ -200,11 +193,11 @@ impl<'a> Reader<'a> {
     }
 }
 
-// What stands first in a script, by a reader: its parameter is plain, so that callers need no walk.
-pub fn first(script: &[u8]) -> Reading
-    ensures { λ r. ⌜ r ≡ nextAt (now (script .entry)) 0 ⌝ }
+// What a reader at a place of a script answers. Its parameters are plain, so that the checker itself proves callers.
+pub fn read_at(script: &[u8], place: usize) -> Reading
+    ensures { λ r. ⌜ r ≡ nextAt (now (script .entry)) place ⌝ }
 {
-    Reader::new(script).next()
+    Reader { script, place }.next()
 }
 
 // The byte of a digit: 0 to 9, then a to f.

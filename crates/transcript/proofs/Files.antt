@@ -1,13 +1,14 @@
 -- Laws of a file's words. The idea: word i is made of bytes 2 i and 2 i + 1, and a loop sets one word after the other.
 use Prim.Native.Nat.{ℕ, zero, suc, _+_, _*_, _/_, _%_, _≤_, _<_}
-use mathlib.Core.Path.{_≡_, refl}
+use mathlib.Core.Path.{_≡_, refl, sym, ap, _∙_}
 use mathlib.Core.Bool.{true, false}
 use mathlib.Core.List.{List, [], _∷_, _++_}
 use native.Mathlib.Omega.{arith}
 use lib.Dec.{eqb, leb}
 use lib.ListN.{length, getD, drop}
 use borrow.Author.Tests.{le-leb, lt-leb}
-use Rattle.basics.proofs.Choice.{if-true, if-false, if-both}
+use Rattle.basics.specs.Choice.{if_then_else_}
+use Rattle.basics.proofs.Choice.{by-cases, if-true, if-false, if-both}
 use Rattle.transcript.specs.Files.{pairs, fileWords, lentWords}
 
 pub pairs-length : (bytes : List ℕ) → length (pairs bytes) ≡ length bytes / 2
@@ -25,6 +26,31 @@ pair-at (low ∷ high ∷ bytes) (suc i) h =
     let e : 2 * suc i ≡ suc (suc (2 * i)) = omega arith in
     let o : 2 * suc i + 1 ≡ suc (suc (2 * i + 1)) = omega arith in
     rw (o, e) (pair-at bytes i (omega arith))
+
+-- ---- how many words a file has, and how large they are
+
+abbrev wordsIn : ℕ → ℕ
+wordsIn n = if eqb (n % 2) 0 then n / 2 else 0
+
+words-length : (bytes : List ℕ) → length (fileWords bytes) ≡ wordsIn (length bytes)
+unfolding fileWords
+words-length bytes =
+    by-cases (eqb (length bytes % 2) 0) (λ t. rw (if-true (pairs bytes) [] t, if-true (length bytes / 2) 0 t) (pairs-length bytes))
+    (λ f. rw (if-false (pairs bytes) [] f, if-false (length bytes / 2) 0 f))
+
+pub words-as-many : (bytes others : List ℕ) → length bytes ≡ length others → length (fileWords bytes) ≡ length (fileWords others)
+words-as-many bytes others e = words-length bytes ∙ ap wordsIn e ∙ sym (words-length others)
+
+pairs-small : (bytes : List ℕ) → ((i : ℕ) → getD bytes i 0 < 256) → (i : ℕ) → getD (pairs bytes) i 0 < 65536
+unfolding pairs
+pairs-small [] h i = omega arith
+pairs-small (low ∷ []) h i = omega arith
+pairs-small (low ∷ high ∷ bytes) h zero = omega (arith, h 0, h 1)
+pairs-small (low ∷ high ∷ bytes) h (suc i) = pairs-small bytes (λ j. h (suc (suc j))) i
+
+pub words-small : (bytes : List ℕ) → ((i : ℕ) → getD bytes i 0 < 256) → (i : ℕ) → getD (fileWords bytes) i 0 < 65536
+unfolding fileWords
+words-small bytes h i = if-both (λ (ws : List ℕ). getD ws i 0 < 65536) _ _ _ (λ _. pairs-small bytes h i) (λ _. omega arith)
 
 -- ---- which words a file lends
 

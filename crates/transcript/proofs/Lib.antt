@@ -3,4 +3,7 @@ pub mod Turns
 pub mod Budget
 pub mod Transcript
 pub mod Counting
+pub mod Lines
 pub mod WrongLengths
+pub mod Printed
+pub mod Examples

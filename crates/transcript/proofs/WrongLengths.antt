@@ -1,7 +1,6 @@
--- Files of a wrong length. The idea: every step refuses with 0x10 and leaves the machine, so each line is known from its record, and two such machines print
--- alike.
-use Prim.Native.Nat.{ℕ, zero, suc, _+_, _*_, _/_, _%_, _<_}
-use mathlib.Core.Path.{_≡_, refl, ap, _∙_}
+-- Files of a wrong length. The idea: every step refuses with 0x10 and leaves the machine, so that the answers are known from the commands alone.
+use Prim.Native.Nat.{ℕ, _+_, _*_, _/_, _%_, _<_}
+use mathlib.Core.Path.{_≡_, refl, sym, ap, _∙_}
 use mathlib.Core.Bool.{true, false, not, _&&_}
 use mathlib.Core.List.{List, [], _∷_, _++_, append-nil}
 use native.Mathlib.Numerals.{add-one}
@@ -18,17 +17,17 @@ use Rattle.partitions.specs.Maps.{mapOf}
 use Rattle.model.specs.declared.Answer.the-variants.{WrongLength}
 use Rattle.model.specs.declared.Command.{Command}
 use Rattle.model.specs.Lent.{Machine, rightLengths}
-use Rattle.model.specs.Step.{Step, unchanged, step}
-use Rattle.chip.specs.Chip.{resultFor}
-use Rattle.script.specs.declared.Reading.{Reading}
-use Rattle.script.specs.declared.Reading.the-variants.{Record, End, Refused}
-use Rattle.script.specs.Records.{kindOf, nextAt}
+use Rattle.model.specs.Step.{Step, unchanged, step, answers, machineAfter, answerTo}
+use Rattle.chip.specs.Chip.{primitives, resultFor}
+use Rattle.script.specs.Records.{kindOf}
 use Rattle.script.specs.Lines.{lineOf, endLine}
 use Rattle.script.proofs.Records.{too-long}
 use Rattle.transcript.specs.Files.{pairs, fileWords}
 use Rattle.transcript.specs.Transcript.{Line, refusedKind, linesFrom, mapFor, mapUsed, chipOf, linesOf, printed, transcript}
 use Rattle.transcript.proofs.Files.{pairs-length}
-use Rattle.transcript.specs.WrongLengths.{Wrong, Refusing, refused, unread, Each, none, more, WrongLengths}
+use Rattle.transcript.proofs.Lines.{lines-whole}
+use Rattle.transcript.specs.Printed.{commandsOf, refusalOf, linesFor}
+use Rattle.transcript.specs.WrongLengths.{Wrong, wrongLines, WrongLengths}
 
 -- ---- how many words a file has
 
@@ -69,39 +68,23 @@ step-wrong : (map : Map) (x : Command) (m : Machine) → rightLengths map (m .le
 unfolding step unchanged
 step-wrong map x m e = ap (λ (s : Step). s .result) (if-true (unchanged WrongLength m) _ (ap not e))
 
-module _ (map : Map) (s : List ℕ) (m : Machine) (wrong : rightLengths map (m .lent) ≡ false) where
-  lines-by : (n place : ℕ) → ((p : ℕ) → Each Refusing (linesFrom map n s p m)) → (r : Reading) → nextAt s place ≡ r → Each Refusing (linesFrom map (suc n) s place m)
-  unfolding linesFrom
-  lines-by n place known (Record command next) e = rw (e, linesFrom, step-wrong map command m wrong) (more refused (known next))
-  lines-by n place known End e = rw (e, linesFrom) none
-  lines-by n place known (Refused w at) e = rw (e, linesFrom) (more (unread w) none)
+answers-wrong : (map : Map) (m : Machine) → rightLengths map (m .lent) ≡ false → (l : List Command) → linesFor l (answers primitives map l m) ≡ wrongLines l
+unfolding linesFor answers wrongLines
+answers-wrong map m wrong [] = refl
+answers-wrong map m wrong (x ∷ l) =
+    rw (step-wrong map x m wrong, machineAfter, answerTo)
+    (ap (λ (ls : List Line). record { kind = kindOf x; code = 0x10; value = 0 } ∷ ls) (answers-wrong map m wrong l))
 
-  lines-refused : (n place : ℕ) → Each Refusing (linesFrom map n s place m)
-  unfolding linesFrom
-  lines-refused zero place = none
-  lines-refused (suc n) place = lines-by n place (lines-refused n) (nextAt s place) refl
-
-module _ (map other : Map) (s : List ℕ) (m k : Machine) (wrong-m : rightLengths map (m .lent) ≡ false) (wrong-k : rightLengths other (k .lent) ≡ false) where
-  same-step : (n place : ℕ) → ((p : ℕ) → linesFrom map n s p m ≡ linesFrom other n s p k)
-      → (r : Reading) → nextAt s place ≡ r → linesFrom map (suc n) s place m ≡ linesFrom other (suc n) s place k
-  unfolding linesFrom
-  same-step n place known (Record command next) e =
-      rw (e, linesFrom, step-wrong map command m wrong-m, step-wrong other command k wrong-k)
-      (ap (λ (ls : List Line). record { kind = kindOf command; code = 0x10; value = 0 } ∷ ls) (known next))
-  same-step n place known End e = rw (e, linesFrom)
-  same-step n place known (Refused w at) e = rw (e, linesFrom)
-
-  same-lines : (n place : ℕ) → linesFrom map n s place m ≡ linesFrom other n s place k
-  unfolding linesFrom
-  same-lines zero place = refl
-  same-lines (suc n) place = same-step n place (same-lines n) (nextAt s place) refl
+lines-wrong : (script image constants : List ℕ) → Wrong image constants → linesOf script image constants ≡ wrongLines (commandsOf script) ++ refusalOf script
+lines-wrong script image constants h =
+    lines-whole script image constants
+    ∙ ap (λ (ls : List Line). ls ++ refusalOf script) (answers-wrong (mapUsed image) (chipOf image constants) h (commandsOf script))
 
 printed-alike : (script image constants image′ constants′ : List ℕ) → Wrong image constants → Wrong image′ constants′
     → transcript script image constants ≡ transcript script image′ constants′
-unfolding transcript linesOf
+unfolding transcript
 printed-alike script image constants image′ constants′ h h′ =
-    ap (λ (ls : List Line). printed ls ++ endLine (length ls))
-    (same-lines (mapUsed image) (mapUsed image′) script (chipOf image constants) (chipOf image′ constants′) h h′ (length script + 1) 0)
+    ap (λ (ls : List Line). printed ls ++ endLine (length ls)) (lines-wrong script image constants h ∙ sym (lines-wrong script image′ constants′ h′))
 
 too-long-script : (script image constants : List ℕ) → 65536 < length script → transcript script image constants ≡ lineOf 0 0x14 0 ++ endLine 1
 unfolding transcript linesOf linesFrom refusedKind printed
@@ -109,13 +92,12 @@ too-long-script script image constants h =
     rw (add-one (length script), linesFrom, too-long script 0 h) (ap (λ (line : List ℕ). line ++ endLine 1) (append-nil (lineOf 0 0x14 0)))
 
 pub wrong-lengths : WrongLengths
-unfolding linesOf
 wrong-lengths = record {
   ofMap1 = first-map;
   ofMap2 = second-map;
   images = images-wrong;
   constants = constants-wrong;
-  lines = λ script image constants h. lines-refused (mapUsed image) script (chipOf image constants) h (length script + 1) 0;
+  lines = lines-wrong;
   alike = printed-alike;
   scripts = too-long-script;
 }

@@ -7,24 +7,21 @@ use mathlib.Core.List.{List, [], _∷_, _++_}
 use lib.ListN.{length}
 use Rattle.partitions.specs.Map1.{map1}
 use Rattle.partitions.specs.Map2.{map2}
+use Rattle.model.specs.declared.Command.{Command}
 use Rattle.model.specs.Lent.{rightLengths}
-use Rattle.script.specs.declared.Refusal.{Refusal}
-use Rattle.script.specs.Records.{refusalCode}
+use Rattle.script.specs.Records.{kindOf}
 use Rattle.script.specs.Lines.{lineOf, endLine}
 use Rattle.transcript.specs.Transcript.{Line, mapUsed, chipOf, linesOf, transcript}
+use Rattle.transcript.specs.Printed.{commandsOf, refusalOf}
 
 -- these files lend something of a wrong length
 abbrev pub Wrong : List ℕ → List ℕ → Type 0
 Wrong image constants = rightLengths (mapUsed image) (chipOf image constants .lent) ≡ false
 
--- a line that a wrong length gives to a record, or the reader's own refusal
-pub data Refusing : Line → Type 0 where
-  refused : {kind : ℕ} → Refusing (record { kind = kind; code = 0x10; value = 0 })
-  unread : {kind place : ℕ} (refusal : Refusal) → Refusing (record { kind = kind; code = refusalCode refusal; value = place })
-
-pub data Each (P : Line → Type 0) : List Line → Type 0 where
-  none : Each P []
-  more : {l : Line} {ls : List Line} → P l → Each P ls → Each P (l ∷ ls)
+-- a line for each command: its kind, 0x10 and the value 0
+unfoldable pub wrongLines : List Command → List Line
+wrongLines [] = []
+wrongLines (x ∷ xs) = record { kind = kindOf x; code = 0x10; value = 0 } ∷ wrongLines xs
 
 pub record WrongLengths : Type 0 where
   -- an image of 896 bytes is one of Map 1, and with constants of 264 bytes all lengths are right
@@ -36,8 +33,8 @@ pub record WrongLengths : Type 0 where
   -- every other file is of a wrong length
   pub images : (image constants : List ℕ) → (length image ≡ 896 → ⊥) → (length image ≡ 1480 → ⊥) → Wrong image constants
   pub constants : (image constants : List ℕ) → (length constants ≡ 264 → ⊥) → Wrong image constants
-  -- "a wrong length gives 0x10 on each line"
-  pub lines : (script image constants : List ℕ) → Wrong image constants → Each Refusing (linesOf script image constants)
+  -- "a wrong length gives 0x10 on each line": on that of every record; the reader's own line, which no file changes, may follow
+  pub lines : (script image constants : List ℕ) → Wrong image constants → linesOf script image constants ≡ wrongLines (commandsOf script) ++ refusalOf script
   -- what is printed then depends on the script alone: so a file that is longer than what the program reads of it prints what its read start prints
   pub alike : (script image constants image′ constants′ : List ℕ) → Wrong image constants → Wrong image′ constants′
       → transcript script image constants ≡ transcript script image′ constants′

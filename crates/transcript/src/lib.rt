@@ -97,7 +97,7 @@ pub fn turn(
 ) -> Turned
     ensures { λ r. ⌜ turnWith (now (cells .exit)) (now (copy .exit)) (now (constants .entry)) r ≡ turnOf (mapOf map) (now (script .entry)) place (machineOf (now (cells .entry)) (now (copy .entry)) (now (constants .entry)) session) ⌝ }
 {
-    let reading = script::next_at(script, place);
+    let reading = script::read_at(script, place);
     let Reading::Record(command, next) = reading else {
         return stopped(script, place, reading, session);
     };
@@ -133,7 +133,7 @@ pub fn line_count(script: &[u8]) -> u64
     let mut count = 0;
     let mut place = 0;
     loop {
-        let reading = script::next_at(script, place);
+        let reading = script::read_at(script, place);
         match reading {
             Reading::Record(_, next) => {
                 place = next;

@@ -10,9 +10,9 @@ use Rattle.words.specs.declared.Rule.{Rule}
 use Rattle.words.specs.declared.Rule.the-variants.{KeepBits, BlankOnly}
 use Rattle.words.specs.Words.{numberOf, wordsOf, partAt}
 use Rattle.words.specs.Programming.{programAnswer, Lowest}
-use Rattle.partitions.specs.Map.{Map, rightsOf, numberAt, partitionAt, limit, inDigest, firstWord, wordCount}
+use Rattle.partitions.specs.Map.{Map, rightsOf, numberAt, partitionAt, limit, firstWord, wordCount}
 use Rattle.life_cycle.specs.Words.{counterWords, stateWords}
-use Rattle.model.specs.declared.Answer.the-variants.{Done, NotBlank, Denied}
+use Rattle.model.specs.declared.Answer.the-variants.{Done}
 use Rattle.model.specs.declared.Command.{Command}
 use Rattle.model.specs.declared.Command.the-variants.{Read, Write, Digest, Transition, PowerUp}
 use Rattle.model.specs.Answers.{codeOf, valueOf}
@@ -21,6 +21,7 @@ use Rattle.model.specs.Lent.{Machine, Primitives}
 use Rattle.model.specs.Commands.{directRule, digestRule, lifeCycleRule, granule, computedDigest, counterAt}
 use Rattle.model.specs.Step.{step, after, machineAfter, answerTo}
 use Rattle.model.specs.Claims.Terms.{Right, Says, storedWords, Spared, Allowed, usedValue}
+use Rattle.model.specs.Claims.Numbers.{KeyAt, Plain, Hardware, Lockable, LowestBurnt, LowestCleared, eightFrom}
 use Rattle.model.specs.Claims.Demand3.{Ready}
 use Rattle.words.specs.declared.Programmed.the-variants as programmed
 use Rattle.partitions.specs.declared.Kind.the-variants as kind
@@ -50,8 +51,15 @@ module _ (prims : Primitives) (map : Map) where
   pub data WriteDenied (m : Machine) (a : ℕ) : Type 0 where
     past : limit map ≤ a → WriteDenied m a
     inLifeCycle : partitionAt map a .kind ≡ kind.LifeCycle → WriteDenied m a
-    inHardwareDigest : rightsOf (partitionAt map a .kind) .hardware ≡ true → inDigest (partitionAt map a) a ≡ true → WriteDenied m a
+    inHardwareDigest : Hardware (partitionAt map a .kind) → partitionAt map a .digest ≤ a → WriteDenied m a
     locked : (sensedAt (m .session) (numberAt map a) ≡ 0 → ⊥) → WriteDenied m a
+
+  -- the words that a write of a value stores: "Secret data is scrambled, then programmed"; "a 4-byte granule uses the low half"
+  pub data Stores (constants : List ℕ) (a value : ℕ) : List ℕ → Type 0 where
+    digest : partitionAt map a .digest ≤ a → Lockable (partitionAt map a .kind) → Stores constants a value (wordsOf 4 value)
+    secret : {first : ℕ} → a < partitionAt map a .digest → KeyAt (partitionAt map a .kind) first
+        → Stores constants a value (wordsOf 4 (prims .encrypt (eightFrom constants first) value))
+    plain : a < partitionAt map a .digest → Plain (partitionAt map a .kind) → Stores constants a value (wordsOf 2 value)
 
   pub record Burns : Type 0 where
     -- Nothing is burnt twice. A command whose target granule has the new rule (a direct access write or digest command) that answers 0, wherever in a list,
@@ -88,9 +96,17 @@ module _ (prims : Primitives) (map : Map) where
         → let answer = answerTo prims map (Write a value) m in
         let p = partitionAt map a in
         let words = storedWords prims map (m .lent .constants) a value in
-        ((answer ≡ Denied) ↔ WriteDenied m a)
-        × ((i : ℕ) → (answer ≡ NotBlank i) ↔ ((WriteDenied m a → ⊥) × Lowest (directRule p a) (m .lent .cells) (firstWord p a) words i))
-        × ((answer ≡ Done 0) ↔ ((WriteDenied m a → ⊥) × (programAnswer (directRule p a) (m .lent .cells) (firstWord p a) words ≡ programmed.Done)))
+        (Says 0x05 0 answer ↔ WriteDenied m a)
+        × ((i : ℕ) → Says 0x04 i answer ↔ ((WriteDenied m a → ⊥) × Lowest (directRule p a) (m .lent .cells) (firstWord p a) words i))
+        × (Says 0x00 0 answer ↔ ((WriteDenied m a → ⊥) × (programAnswer (directRule p a) (m .lent .cells) (firstWord p a) words ≡ programmed.Done)))
+    -- the words that a write that is not denied is to store, by kind
+    pub stores : (m : Machine) (a value : ℕ) → (WriteDenied m a → ⊥) → Stores (m .lent .constants) a value (storedWords prims map (m .lent .constants) a value)
+    -- "refused with 4 if any word of its target granule is nonzero, whatever the value"; "AUTH_STATE data, like LIFE_CYCLE, keeps the old rule": the lowest word that
+    -- refuses is the lowest that is not zero, in AUTH_STATE data the lowest whose bit would be cleared
+    pub blanks : (cells words : List ℕ) (at a i : ℕ) → (partitionAt map a .kind ≡ kind.AuthState → a < partitionAt map a .digest → ⊥)
+        → Lowest (directRule (partitionAt map a) a) cells at words i ↔ LowestBurnt cells at (length words) i
+    pub clearedBits : (cells words : List ℕ) (at a i : ℕ) → partitionAt map a .kind ≡ kind.AuthState → a < partitionAt map a .digest
+        → Lowest (directRule (partitionAt map a) a) cells at words i ↔ LowestCleared cells at words i
     -- "On a Ready chip the rules allow a write where Write gives neither 5 nor 4, sensed digests being those stored at the last power-up": there, and nowhere
     -- else, it answers 0
     pub allowed : (m : Machine) → Right map m → (l₀ l₁ : List Command) → Ready prims map m l₀ l₁ → (a value : ℕ)

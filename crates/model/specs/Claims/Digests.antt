@@ -4,20 +4,22 @@ use mathlib.Core.Path.{_≡_}
 use mathlib.Core.Bool.{true, false}
 use mathlib.Core.List.{List, [], _∷_, _++_}
 use mathlib.Core.Logic.{_↔_}
+use lib.ListN.{length}
 use Rattle.words.specs.Words.{wordsOf}
 use Rattle.words.specs.Programming.{programAnswer}
 use Rattle.partitions.specs.Map.{Map, rightsOf, numberAt, partition, partitionAt, limit, inDigest}
+use Rattle.model.specs.declared.Phase.the-variants as phase
 use Rattle.model.specs.declared.Answer.{Answer}
-use Rattle.model.specs.declared.Answer.the-variants.{Done}
+use Rattle.model.specs.declared.Answer.the-variants.{Done, DigestFailed}
 use Rattle.model.specs.declared.Command.{Command}
 use Rattle.model.specs.declared.Command.the-variants.{Read, Write, FrontRead, Digest, ReadLock, Transition, PowerUp}
 use Rattle.model.specs.Answers.{codeOf}
-use Rattle.model.specs.Session.{isReady, sensedLocked}
+use Rattle.model.specs.Session.{isReady, sensedAt, sensedLocked}
 use Rattle.model.specs.Lent.{Machine, Primitives}
-use Rattle.model.specs.Commands.{digestRule, storedDigest, computedDigest}
-use Rattle.model.specs.PowerUp.{digestHolds}
+use Rattle.model.specs.Commands.{digestRule, storedDigest}
 use Rattle.model.specs.Step.{after, machineAfter, answerTo}
-use Rattle.model.specs.Claims.Terms.{Right, CellsFit, Put, Digested}
+use Rattle.model.specs.Claims.Terms.{Right, CellsFit, Says, Put, Digested}
+use Rattle.model.specs.Claims.Numbers.{Hardware, LowestBurnt, digestOf}
 use Rattle.words.specs.declared.Programmed.the-variants as programmed
 
 -- the command puts a number of 64 bits in the digest of partition n, whole: a write of it there, or a digest command that answers it; and it answers 0
@@ -43,7 +45,15 @@ module _ (prims : Primitives) (map : Map) where
 
   -- the digest of a partition's data words as they are stored now
   abbrev pub digestNow : ℕ → Machine → ℕ
-  digestNow n m = computedDigest prims (m .lent .constants) (partition map n) (m .lent .cells)
+  digestNow n m = digestOf prims map (m .lent .constants) n (m .lent .cells)
+
+  -- "the address is exactly the start of 2, 3, 4 or 5 and its sensed digest is zero"
+  pub record DigestAllowed (m : Machine) (a : ℕ) : Type 0 where
+    pub number : ℕ
+    pub known : number < length map
+    pub hardware : Hardware (partition map number .kind)
+    pub start : a ≡ partition map number .start
+    pub unlocked : sensedAt (m .session) number ≡ 0
 
   -- the rules allow a digest command of the partition at this address, past 0x10 and 0x12: Ready, "exactly the start of 2, 3, 4 or 5 and its sensed digest is
   -- zero", and no word of the digest is refused
@@ -64,6 +74,11 @@ module _ (prims : Primitives) (map : Map) where
   pub record Digests : Type 0 where
     -- a digest command answers 0 where it is allowed, and nowhere else
     pub exactly : (m : Machine) → Right map m → (a : ℕ) → (codeOf (answerTo prims map (Digest a) m) ≡ 0x00) ↔ Digestible m a
+    -- "5 unless" it is at such a start, then 4 with the lowest word of its location that is not zero
+    pub codes : (m : Machine) → Right map m → m .session .phase ≡ phase.Ready → (a : ℕ)
+        → let answer = answerTo prims map (Digest a) m in
+        (Says 0x05 0 answer ↔ (DigestAllowed m a → ⊥))
+        × ((i : ℕ) → Says 0x04 i answer ↔ (DigestAllowed m a × LowestBurnt (m .lent .cells) (partitionAt map a .digest / 2) 4 i))
     -- "Computes over the stored data words, programs the digest location, answers the digest."
     pub done : (m : Machine) → Right map m → (a : ℕ) → codeOf (answerTo prims map (Digest a) m) ≡ 0x00
         → (answerTo prims map (Digest a) m ≡ Done (digestNow (numberAt map a) m))
@@ -71,11 +86,11 @@ module _ (prims : Primitives) (map : Map) where
     -- the location holds it, whole: what it holds is the digest of the stored words
     pub stored : (m : Machine) → Right map m → CellsFit m → (a : ℕ) → codeOf (answerTo prims map (Digest a) m) ≡ 0x00
         → storedDigest (partitionAt map a) (machineAfter prims map (Digest a) m .lent .cells) ≡ digestNow (numberAt map a) m
-    -- "a nonzero stored digest must equal the one recomputed": from a digest command that answers 0 on, the partition passes the check, until a write to its
-    -- data answers 0
+    -- "a nonzero stored digest must equal the one recomputed": from a digest command that answers 0 on, no power-up answers 6 for the partition, until a write to
+    -- its data answers 0
     pub checks : (m : Machine) → Right map m → CellsFit m → (a : ℕ) → codeOf (answerTo prims map (Digest a) m) ≡ 0x00
         → (l : List Command) → SparedData (numberAt map a) l (machineAfter prims map (Digest a) m)
-        → digestHolds prims (m .lent .constants) (after prims map l (machineAfter prims map (Digest a) m) .lent .cells) (partitionAt map a) ≡ true
+        → answerTo prims map PowerUp (after prims map l (machineAfter prims map (Digest a) m)) ≡ DigestFailed (numberAt map a) → ⊥
     -- a digest is never written in part: after any list it is whole the one that was there before, or the one that a single command of the list put there
     pub whole : (m : Machine) → Right map m → (n : ℕ) → Digested map n → (l : List Command)
         → Source m l n (storedDigest (partition map n) (after prims map l m .lent .cells))

@@ -1,18 +1,21 @@
 -- Read locks: what a lock refuses, until when, and that nothing else looks at it.
 use Prim.Native.Nat.{ℕ}
 use mathlib.Core.Path.{_≡_}
-use mathlib.Core.Bool.{Bool, false}
+use mathlib.Core.Bool.{Bool, true, false}
 use mathlib.Core.List.{List, _∷_}
 use Rattle.basics.specs.Choice.{if_then_else_}
-use Rattle.partitions.specs.Map.{Map, rightsOf, numberAt, partitionAt, inDigest}
-use Rattle.model.specs.declared.Answer.the-variants.{Denied, NotReady}
+use lib.ListN.{set}
+use Rattle.partitions.specs.Map.{Map, rightsOf, numberAt, partition, partitionAt, inDigest}
+use Rattle.model.specs.declared.Phase.the-variants as phase
+use Rattle.model.specs.declared.Answer.the-variants.{Done, Denied, NotReady}
 use Rattle.model.specs.declared.Command.{Command}
 use Rattle.model.specs.declared.Command.the-variants.{Read, Write, FrontRead, Digest, ReadLock, Transition, PowerUp}
 use Rattle.model.specs.Answers.{codeOf}
 use Rattle.model.specs.Session.{isReady, withLocks}
 use Rattle.model.specs.Lent.{Machine, Primitives}
 use Rattle.model.specs.Step.{after, machineAfter, answerTo}
-use Rattle.model.specs.Claims.Terms.{Right, NoPowerUp}
+use Rattle.model.specs.Claims.Terms.{Right, Says, NoPowerUp}
+use Rattle.model.specs.Claims.Numbers.{Lockable}
 
 -- the command reads data of partition n
 abbrev pub readsData : Map → ℕ → Command → Type 0
@@ -26,6 +29,12 @@ readsData map n PowerUp = ⊥
 
 module _ (prims : Primitives) (map : Map) where
   pub record ReadLocks : Type 0 where
+    -- "5 unless 0 or 1 .. locking again answers 0": the kinds with a read lock, and the record gains that lock alone
+    pub exactly : (m : Machine) → Right map m → m .session .phase ≡ phase.Ready → (n : ℕ)
+        → let answer = answerTo prims map (ReadLock n) m in
+        (Lockable (partition map n .kind)
+        → (answer ≡ Done 0) × (machineAfter prims map (ReadLock n) m ≡ record { lent = m .lent; session = withLocks (set (m .session .locks) n true) (m .session) }))
+        × ((Lockable (partition map n .kind) → ⊥) → Says 0x05 0 answer)
     -- "Lasts until power-up": from a read lock that answers 0 on, every read of the partition's data answers 5, or 7 where the phase is not Ready
     pub lasts : (m : Machine) → Right map m → (l₀ : List Command) (n : ℕ)
         → let m₀ = after prims map (PowerUp ∷ l₀) m in

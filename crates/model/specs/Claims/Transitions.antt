@@ -9,6 +9,8 @@ use lib.Dec.{eqb}
 use Rattle.basics.specs.Choice.{if_then_else_}
 use Rattle.words.specs.Words.{numberOf, partAt}
 use Rattle.words.specs.Programming.{programAnswer}
+use Rattle.partitions.specs.declared.Kind.{Kind}
+use Rattle.partitions.specs.declared.Kind.the-variants as kind
 use Rattle.partitions.specs.Map.{Map, partition, numberOfKind}
 use Rattle.partitions.specs.Map1.{map1}
 use Rattle.partitions.specs.Map2.{map2}
@@ -22,12 +24,13 @@ use Rattle.life_cycle.specs.Constants.{validConstants}
 use Rattle.model.specs.declared.Command.{Command}
 use Rattle.model.specs.declared.Command.the-variants.{Transition, PowerUp}
 use Rattle.model.specs.Answers.{codeOf, valueOf}
-use Rattle.model.specs.Session.{isReady, sensedLocked}
-use Rattle.model.specs.Lent.{Machine, Primitives, rightLengths, rawUnlockHash}
-use Rattle.model.specs.Commands.{lifeCycleRule, tokenKind, tokenOffset, hashesTo, storedToken, counterAt, stateAt}
+use Rattle.model.specs.Session.{isReady, sensedAt}
+use Rattle.model.specs.Lent.{Machine, Primitives, rightLengths}
+use Rattle.model.specs.Commands.{lifeCycleRule, tokenKind, tokenOffset, storedToken, counterAt, stateAt}
 use Rattle.model.specs.PowerUp.{verdictOf, lifeCycleIn}
 use Rattle.model.specs.Step.{after, machineAfter, answerTo}
 use Rattle.model.specs.Claims.Terms.{Right, Says, Put, NoPowerUp}
+use Rattle.model.specs.Claims.Numbers.{Agrees, eightFrom}
 use Rattle.model.specs.Claims.Refusals.{early}
 use Rattle.words.specs.declared.Programmed.the-variants as programmed
 use Rattle.life_cycle.specs.declared.Entry.the-variants as entry
@@ -35,14 +38,6 @@ use Rattle.life_cycle.specs.declared.Entry.the-variants as entry
 -- the codes after the stroke, with no move: "then 0x21; 0x22; 0x23"
 unfoldable pub strokeOnly : ℕ → Bool
 strokeOnly code = eqb code 0x21 || eqb code 0x22 || eqb code 0x23
-
--- the tokens that a partition stores
-abbrev pub isStored : Token → Bool
-isStored Nothing = false
-isStored RawUnlock = false
-isStored TestUnlock = true
-isStored TestExit = true
-isStored Rma = true
 
 -- the course of a life cycle: it stays, spends a stroke, or spends a stroke and takes an entry of the table
 pub data Course (x : LifeCycle) : LifeCycle → Type 0 where
@@ -66,16 +61,17 @@ module _ (prims : Primitives) (map : Map) where
 
   -- what comparing the token given comes to (request Four): by its hash, with the RAW_UNLOCK constant, or with what the copy holds of a partition that
   -- is sensed locked. "With none, the token is ignored".
-  abbrev pub Stored : Machine → ℕ → Bool → Token → Type 0
-  Stored m given same token =
-      (sensedLocked (m .session) (numberOfKind map (tokenKind token)) ≡ true) × (hashesTo prims given (storedToken map token (m .lent .copy)) ≡ same)
+  abbrev pub Stored : Machine → ℕ → Bool → Kind → ℕ → Type 0
+  Stored m given same k offset =
+      (sensedAt (m .session) (numberOfKind map k) ≡ 0 → ⊥) × Agrees (prims .hash given) (eightFrom (m .lent .copy) (partition map (numberOfKind map k) .start / 2 + offset)) same
 
+  -- "124 to 131 hashed RAW_UNLOCK token"; "SECRET0 (TEST_UNLOCK, TEST_EXIT, 16 bytes each)", "SECRET2 (RMA token 16, ..)": 16 bytes are 8 words
   abbrev pub Compared : Machine → ℕ → Bool → Token → Type 0
   Compared m given same Nothing = same ≡ true
-  Compared m given same RawUnlock = hashesTo prims given (rawUnlockHash (m .lent .constants)) ≡ same
-  Compared m given same TestUnlock = Stored m given same TestUnlock
-  Compared m given same TestExit = Stored m given same TestExit
-  Compared m given same Rma = Stored m given same Rma
+  Compared m given same RawUnlock = Agrees (prims .hash given) (eightFrom (m .lent .constants) 124) same
+  Compared m given same TestUnlock = Stored m given same kind.Secret0 0
+  Compared m given same TestExit = Stored m given same kind.Secret0 8
+  Compared m given same Rma = Stored m given same kind.Secret2 0
 
   -- the table asks for a token, and this is what comparing it comes to
   pub record Asked (m : Machine) (target given : ℕ) (same : Bool) : Type 0 where
@@ -84,11 +80,10 @@ module _ (prims : Primitives) (map : Map) where
     pub compared : Compared m given same token
 
   -- the table asks for a token that is stored in a partition which is not sensed locked
-  pub record Unlocked (m : Machine) (target : ℕ) : Type 0 where
-    pub token : Token
-    pub allowed : transition (m .session .state) target ≡ entry.Allowed token
-    pub stored : isStored token ≡ true
-    pub notLocked : sensedLocked (m .session) (numberOfKind map (tokenKind token)) ≡ false
+  pub data Unlocked (m : Machine) (target : ℕ) : Type 0 where
+    testUnlock : transition (m .session .state) target ≡ entry.Allowed TestUnlock → sensedAt (m .session) (numberOfKind map kind.Secret0) ≡ 0 → Unlocked m target
+    testExit : transition (m .session .state) target ≡ entry.Allowed TestExit → sensedAt (m .session) (numberOfKind map kind.Secret0) ≡ 0 → Unlocked m target
+    rma : transition (m .session .state) target ≡ entry.Allowed Rma → sensedAt (m .session) (numberOfKind map kind.Secret2) ≡ 0 → Unlocked m target
 
   -- a programmed bit of the counter words would be cleared; or, where the table's token was given, one of the state words
   pub data Stops (m : Machine) (target given : ℕ) : Type 0 where

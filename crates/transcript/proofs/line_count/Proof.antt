@@ -18,18 +18,18 @@ Inv-loop script count₀ place₀ count place = (place ≤ length script) × (co
 abbrev μ-loop : tie.MeasureT-loop
 μ-loop script count₀ place₀ count place = length script - place
 
-abbrev script : tie.After-next-at Inv-loop μ-loop → List ℕ
+abbrev script : tie.After-read-at Inv-loop μ-loop → List ℕ
 script t = t .before .before .before .args .script .now
 
-abbrev named : tie.After-known-told Inv-loop μ-loop → tie.After-next-at Inv-loop μ-loop
+abbrev named : tie.After-known-told Inv-loop μ-loop → tie.After-read-at Inv-loop μ-loop
 named c = c .before .before .before
 
-abbrev place : tie.After-next-at Inv-loop μ-loop → ℕ
+abbrev place : tie.After-read-at Inv-loop μ-loop → ℕ
 place t = t .before .loop .place
 
 found : (c : tie.After-known-told Inv-loop μ-loop) → let r = c .before .reading .given .0 in
     nextAt (script (named c)) (place (named c)) ≡ Record (r .0) (r .1 .0)
-found c = sym (named c .next-at .ensures) ∙ c .before .reading .given .1
+found c = sym (named c .read-at .ensures) ∙ c .before .reading .given .1
 
 read : (c : tie.After-known-told Inv-loop μ-loop) → let r = c .before .reading .given .0 in IsRead (script (named c)) (place (named c)) (r .0) (r .1 .0)
 read c = is-read _ _ (found c)
@@ -46,12 +46,12 @@ loop-again c = let r = read c in (r .within, omega (arith, r .above), omega (ari
 returns : tie.Need-returns Inv-loop μ-loop
 returns c = λ image constants.
     let t = c .before .before in
-    omega (arith, left-end (script t) (place t) (sym (t .next-at .ensures) ∙ c .enum-told .given .1), counted-lines (script t) image constants)
+    omega (arith, left-end (script t) (place t) (sym (t .read-at .ensures) ∙ c .enum-told .given .1), counted-lines (script t) image constants)
 
 returns-2 : tie.Need-returns-2 Inv-loop μ-loop
 returns-2 c = λ image constants.
     let t = c .before .before in
-    omega (arith, left-refused (script t) (place t) (sym (t .next-at .ensures) ∙ c .enum-told2 .given .1), counted-lines (script t) image constants)
+    omega (arith, left-refused (script t) (place t) (sym (t .read-at .ensures) ∙ c .enum-told2 .given .1), counted-lines (script t) image constants)
 
 pub line-count-spec : {M : Type 1} → statement M
 line-count-spec =

@@ -8,15 +8,15 @@ use borrow.Author.Needs.{needs}
 use Rattle.transcript.proofs.turn.Statement.{statement}
 use Rattle.transcript.proofs.turn.Tie as tie
 
-abbrev start : tie.After-next-at → tie.Start
+abbrev start : tie.After-read-at → tie.Start
 start t = t .before .before .before .before .before
 
 returns : tie.Need-returns
 unfolding turnOf
 returns c =
     let o = start (c .before .before) .args in
-    let n = c .before .before .next-at .result in
-    rw (c .stopped .ensures, ← c .before .before .next-at .ensures)
+    let n = c .before .before .read-at .result in
+    rw (c .stopped .ensures, ← c .before .before .read-at .ensures)
     (turn-stopped (mapOf (o .map)) n (o .script .now) (o .place) (o .cells .now) (o .copy .now) (o .constants .now) (o .session) (c .before .match .keys2))
 
 returns-2 : tie.Need-returns-2
@@ -37,7 +37,7 @@ returns-2 c =
     (c .before .before .code .result)
     (c .before .value .result)
     (c .line .result)
-    (sym (t .next-at .ensures) ∙ found .1)
+    (sym (t .read-at .ensures) ∙ found .1)
     (x .execute .ensures)
     (c .before .before .before .kind-of .ensures)
     (c .before .before .code .ensures)
