@@ -40,6 +40,7 @@ pub mod ReadLocks
 pub mod WordSizes
 pub mod DigestCodes
 pub mod DigestChecks
+pub mod PowerUpCodes
 pub mod FailedDigests
 pub mod FailedLifeCycles
 pub mod Everything

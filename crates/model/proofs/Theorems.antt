@@ -11,9 +11,11 @@ use Rattle.model.specs.Step.{after}
 use Rattle.model.specs.Claims.Terms.{Cipher, DigestFits}
 use Rattle.model.specs.Claims.Demand3.{Demand3}
 use Rattle.model.specs.Claims.Refusals.{Refusals}
+use Rattle.model.specs.Claims.Reads.{Reads}
 use Rattle.model.specs.Claims.Burns.{Burns}
 use Rattle.model.specs.Claims.Transitions.{Transitions, TokenPlaces}
 use Rattle.model.specs.Claims.Digests.{Digests}
+use Rattle.model.specs.Claims.PowerUps.{PowerUps}
 use Rattle.model.specs.Claims.FailedPowerUps.{FailedPowerUps}
 use Rattle.model.specs.Claims.ReadLocks.{ReadLocks}
 use Rattle.model.specs.Claims.Sensing.{Sensing}
@@ -23,6 +25,9 @@ use Rattle.model.proofs.Refusals.{commands-refuse, power-ups-refuse, tr
 use Rattle.model.proofs.LeftOut.{left-out}
 use Rattle.model.proofs.Deaths.{deaths-told}
 use Rattle.model.proofs.Locks.{locked-since}
+use Rattle.model.proofs.Places.{places}
+use Rattle.model.proofs.Order.{order}
+use Rattle.model.proofs.ReadCodes.{read-exact, read-shows, front-exact}
 use Rattle.model.proofs.NamedWords.{refused-named, locked-denied}
 use Rattle.model.proofs.SecondBurns.{found-blank, no-second-burn, granule-final}
 use Rattle.model.proofs.Writes.{write-taken, reads-back, reads-last}
@@ -43,6 +48,7 @@ use Rattle.model.proofs.Quiet.{after-unsensed}
 use Rattle.model.proofs.ReadLocks.{lock-exact, locks-last, lock-others, lock-says-nothing}
 use Rattle.model.proofs.DigestCodes.{digest-codes}
 use Rattle.model.proofs.DigestChecks.{digest-exact, digest-done, digest-only, digest-stored}
+use Rattle.model.proofs.PowerUpCodes.{power-up-sixes, power-up-invalid, power-up-scrap, power-up-done, power-up-sensed, power-up-copy}
 use Rattle.model.proofs.FailedDigests.{sixes, digest-passes}
 use Rattle.model.proofs.FailedLifeCycles.{sevens}
 use Rattle.model.proofs.Everything.{everything}
@@ -109,6 +115,23 @@ digests prims G map F = record {
   whole = λ m r n D l. whole-digests prims map F n D l m r;
 }
 
+pub reading : (prims : Primitives) (map : Map) → fit map ≡ true → Reads prims map
+reading prims map F = record {
+  read = λ m r e a. read-exact prims map F m a r e;
+  shows = λ m r a. read-shows prims map F m a r;
+  frontRead = λ m r e a. front-exact prims map F m a r e;
+}
+
+pub power-ups : (prims : Primitives) (map : Map) → fit map ≡ true → PowerUps prims map
+power-ups prims map F = record {
+  sixes = power-up-sixes prims map;
+  invalid = power-up-invalid prims map;
+  scrap = power-up-scrap prims map;
+  done = power-up-done prims map;
+  sensed = power-up-sensed prims map F;
+  copy = power-up-copy prims map F;
+}
+
 pub failed-power-ups : (prims : Primitives) → DigestFits prims → (map : Map) → fit map ≡ true → FailedPowerUps prims map
 failed-power-ups prims G map F = record { sixes = sixes prims map F G; sevens = sevens prims map F }
 
@@ -136,10 +159,14 @@ pub claims : (prims : Primitives) → Cipher prims → DigestFits prims → (map
 claims prims C G map F = record {
   demand3 = demand3 prims C map F;
   refusals = refusals prims map;
+  places = places map F;
+  order = order prims map;
+  reads = reading prims map F;
   burns = burns prims C map F;
   oldRule = old-rule prims C map F;
   transitions = transitions prims map F;
   digests = digests prims G map F;
+  powerUps = power-ups prims map F;
   failedPowerUps = failed-power-ups prims G map F;
   readLocks = read-locks prims map F;
   sensing = sensing prims map F;

@@ -1,0 +1,267 @@
+-- When a power-up gives each answer, and what it senses. The idea: the first partition that fails is found by the list of partitions; where none fails, the life cycle words decode to
+-- what they encode; and a word of the copy is what its kind and its side of the digest make of it.
+use mathlib.Core.Path.{_≡_, refl, sym, ap, subst, _∙_}
+use mathlib.Core.Bool.{Bool, true, false, not, _&&_, _||_}
+use mathlib.Core.List.{List, [], _∷_}
+use mathlib.Core.Logic.{_↔_}
+use mathlib.Core.Option.{Option, none, some}
+use Prim.Native.Nat.{ℕ, zero, suc, _+_, _*_, _-_, _/_, _%_, _≤_, _<_}
+use native.Mathlib.Omega.{arith}
+use lib.Dec.{eqb, leb}
+use lib.ListN.{length, getD}
+use borrow.Author.Tests.{eqb-true, eqb-false, eq-eqb, ne-eqb, leb-true, leb-false, le-leb, lt-leb, not-false, not-true}
+use Rattle.basics.specs.Choice.{if_then_else_}
+use Rattle.basics.specs.Range.{listed}
+use Rattle.basics.proofs.Choice.{by-cases, true-not-false, not-passed, and-left, and-right, and-both, and-false, or-none-left, or-none-right, if-both, if-true, if-false}
+use Rattle.basics.proofs.Range.{listed-at}
+use Rattle.words.specs.Words.{numberOf, wordsOf, partAt}
+use Rattle.words.proofs.Words.{Words}
+use Rattle.partitions.specs.declared.Kind.{Kind}
+use Rattle.partitions.specs.declared.Kind.the-variants as kind
+use Rattle.partitions.specs.declared.Partition.{Partition}
+use Rattle.partitions.specs.Fitness.{fit}
+use Rattle.partitions.specs.Map.{Map, rightsOf, partition, partitionAt, limit, inDigest, firstWord, wordCount, numberOfKind, nowhere}
+use Rattle.partitions.proofs.Map.{inside, end-within}
+use Rattle.partitions.proofs.Granules.{granule-scrambled, size-words}
+use Rattle.life_cycle.specs.declared.LifeCycle.{LifeCycle}
+use Rattle.life_cycle.specs.declared.LifeCycle.the-variants.{Valid, Invalid}
+use Rattle.life_cycle.specs.Words.{counterWords, stateWords, decoded}
+use Rattle.life_cycle.proofs.Decoding.{decoded-says, decoded-valid}
+use Rattle.model.specs.declared.Answer.{Answer}
+use Rattle.model.specs.declared.Answer.the-variants.{Done, DigestFailed, LifeCycleFailed}
+use Rattle.model.specs.declared.Command.the-variants.{PowerUp}
+use Rattle.model.specs.Answers.{codeOf, valueOf}
+use Rattle.model.specs.Session.{sensedAt}
+use Rattle.model.specs.Lent.{Lent, Machine, Primitives, digestStart, digestFinal}
+use Rattle.model.specs.Commands.{granule, storedDigest, dataWords, computedDigest, unscrambled, counterAt, stateAt}
+use Rattle.model.specs.PowerUp.{digestHolds, firstFailing, verdictOf, lifeCycleIn, copyWord, wakingOf, lifeCycleWaking, waking, wokenAnswer}
+use Rattle.model.specs.Step.{powerUp, machineAfter, answerTo}
+use Rattle.model.specs.Claims.Terms.{Right, Digested, Says}
+use Rattle.model.specs.Claims.Numbers.{KeyAt, Hardware, Lockable, eightFrom, digestIn, digestOf}
+use Rattle.model.specs.Claims.PowerUps.{Fails, FirstFails, Encodes, Latched}
+use Rattle.model.proofs.KindNames.{Keyed, hardware-kind, kind-hardware, lockable-kind, scrambled-keyed, key-is}
+use Rattle.model.proofs.Steps.{step-up, step-constants}
+use Rattle.model.proofs.Since.{first-since, since-sensed}
+
+-- ---- the first partition that fails
+
+some-not-none : {n : ℕ} → some n ≡ none → ⊥
+some-not-none e = let z : _≡_ {A = ℕ} 0 1 = cc in omega arith
+
+some-same : {i n : ℕ} → some i ≡ some n → i ≡ n
+some-same e = cc
+
+module _ (prims : Primitives) (k c : List ℕ) where
+  abbrev holds : Partition → Bool
+  holds = digestHolds prims k c
+
+  -- the partitions from i on, in the list ps, hold up to n, which fails
+  record First (i n : ℕ) (ps : Map) : Type 0 where
+    index : ℕ
+    is : n ≡ i + index
+    known : index < length ps
+    fails : holds (getD ps index nowhere) ≡ false
+    before : (j : ℕ) → j < index → holds (getD ps j nowhere) ≡ true
+
+  found-first : (i n : ℕ) (ps : Map) → firstFailing prims k c i ps ≡ some n → First i n ps
+  unfolding firstFailing
+  found-first i n [] e = absurd (some-not-none (sym e))
+  found-first i n (p ∷ ps) e =
+      by-cases (holds p)
+      (λ t. (let f = found-first (suc i) n ps (sym (if-true _ _ t) ∙ e) in
+      record { index = suc (f .index); is = omega (arith, f .is); known = omega (arith, f .known); fails = f .fails; before = earlier t (f .index) (f .before) }))
+      (λ t. (let q = some-same (sym (if-false _ _ t) ∙ e) in
+      record { index = 0; is = omega (arith, q); known = omega arith; fails = t; before = λ j l. absurd (omega arith) }))
+    where
+      earlier : digestHolds prims k c p ≡ true → (index : ℕ) → ((j : ℕ) → j < index → digestHolds prims k c (getD ps j nowhere) ≡ true)
+          → (j : ℕ) → j < suc index → digestHolds prims k c (getD (p ∷ ps) j nowhere) ≡ true
+      earlier t index h zero l = t
+      earlier t index h (suc j) l = h j (omega arith)
+
+  first-found : (i index : ℕ) (ps : Map) → index < length ps → holds (getD ps index nowhere) ≡ false → ((j : ℕ) → j < index → holds (getD ps j nowhere) ≡ true)
+      → firstFailing prims k c i ps ≡ some (i + index)
+  unfolding firstFailing
+  first-found i index [] l f h = absurd (omega arith)
+  first-found i zero (p ∷ ps) l f h = let e : i ≡ i + 0 = omega arith in if-false _ _ f ∙ ap some e
+  first-found i (suc index) (p ∷ ps) l f h =
+      let e : suc i + index ≡ i + suc index = omega arith in
+      if-true _ _ (h 0 (omega arith)) ∙ first-found (suc i) index ps (omega arith) f (λ j q. h (suc j) (omega arith)) ∙ ap some e
+
+  none-found : (i : ℕ) (ps : Map) → ((j : ℕ) → j < length ps → holds (getD ps j nowhere) ≡ true) → firstFailing prims k c i ps ≡ none
+  unfolding firstFailing
+  none-found i [] h = refl
+  none-found i (p ∷ ps) h = if-true _ _ (h 0 (omega arith)) ∙ none-found (suc i) ps (λ j l. h (suc j) (omega arith))
+
+module _ (prims : Primitives) (map : Map) (l : Lent) where
+  -- a check that fails, in numbers
+  failed : (n : ℕ) → n < length map → digestHolds prims (l .constants) (l .cells) (partition map n) ≡ false → Fails prims map l n
+  unfolding digestHolds storedDigest computedDigest digestStart digestFinal dataWords
+  failed n known e =
+      let soft = not (rightsOf (partition map n .kind) .hardware) in
+      let zero = eqb (digestIn map n (l .cells)) 0 in
+      let same = eqb (digestIn map n (l .cells)) (digestOf prims map (l .constants) n (l .cells)) in
+      let both = or-none-left (soft || zero) same e in
+      record {
+        known = known;
+        hardware = hardware-kind _ (not-false _ (or-none-left soft zero both));
+        nonzero = eqb-false _ 0 (or-none-right soft zero both);
+        differs = eqb-false _ _ (or-none-right (soft || zero) same e);
+      }
+
+  fails-failed : (n : ℕ) → Fails prims map l n → digestHolds prims (l .constants) (l .cells) (partition map n) ≡ false
+  unfolding digestHolds storedDigest computedDigest digestStart digestFinal dataWords
+  fails-failed n f = rw (kind-hardware (f .hardware), ne-eqb _ 0 (f .nonzero), ne-eqb _ _ (f .differs)) refl
+
+  verdict-fails : (n : ℕ) → verdictOf prims map l ≡ some n → FirstFails prims map l n
+  unfolding verdictOf partition
+  verdict-fails n e =
+      let f = found-first prims (l .constants) (l .cells) 0 n map e in
+      let is : f .index ≡ n = omega (arith, f .is) in
+      record {
+        fails = rw is at (failed (f .index) (f .known) (f .fails));
+        first = λ j q h. true-not-false (f .before j (omega (arith, is))) (fails-failed j h);
+      }
+
+  fails-verdict : (n : ℕ) → FirstFails prims map l n → verdictOf prims map l ≡ some n
+  unfolding verdictOf partition
+  fails-verdict n f =
+      let e : 0 + n ≡ n = omega arith in
+      first-found prims (l .constants) (l .cells) 0 n map (f .fails .known) (fails-failed n (f .fails))
+      (λ j q. by-cases (digestHolds prims (l .constants) (l .cells) (getD map j nowhere)) (λ t. t) (λ t. absurd (f .first j q (failed j (omega (arith, f .fails .known)) t))))
+      ∙ ap some e
+
+  none-verdict : ((n : ℕ) → Fails prims map l n → ⊥) → verdictOf prims map l ≡ none
+  unfolding verdictOf partition
+  none-verdict h =
+      none-found prims (l .constants) (l .cells) 0 map
+      (λ j q. by-cases (digestHolds prims (l .constants) (l .cells) (getD map j nowhere)) (λ t. t) (λ t. absurd (h j (failed j q t))))
+
+  -- ---- what the life cycle words encode
+
+  encoded : (state count : ℕ) → lifeCycleIn map l ≡ Valid state count → Encodes prims map l state count
+  unfolding lifeCycleIn counterAt stateAt
+  encoded state count e =
+      let d = decoded-says (l .constants) _ _ state count e in
+      record { counter = d .0; states = d .1; stateKnown = d .2; countKnown = d .3; raw = d .4 }
+
+module _ (prims : Primitives) (map : Map) (m : Machine) (r : Right map m) where
+  decodes : (state count : ℕ) → Encodes prims map (m .lent) state count → lifeCycleIn map (m .lent) ≡ Valid state count
+  unfolding lifeCycleIn counterAt stateAt
+  decodes state count e =
+      rw (e .counter, e .states)
+      (decoded-valid (m .lent .constants) (record { small = r .words }) (r .valid) state count (e .stateKnown) (e .countKnown) (e .raw))
+
+  -- ---- the answers
+
+  six-verdict : (v : Option ℕ) (life : LifeCycle) (n : ℕ) → wokenAnswer (wakingOf v life) ≡ DigestFailed n → v ≡ some n
+  unfolding wokenAnswer wakingOf lifeCycleWaking
+  six-verdict (some number) life n = λ e. ap some (ap valueOf e)
+  six-verdict none Invalid n = λ e. absurd (omega (arith, ap codeOf e))
+  six-verdict none (Valid state count) n =
+      if-both (λ w. wokenAnswer w ≡ DigestFailed n → none ≡ some n) (eqb state 20) _ _ (λ t e. absurd (omega (arith, ap codeOf e))) (λ t e. absurd (omega (arith, ap codeOf e)))
+
+  pub power-up-sixes : (n : ℕ) → (answerTo prims map PowerUp m ≡ DigestFailed n) ↔ FirstFails prims map (m .lent) n
+  unfolding powerUp waking wakingOf wokenAnswer
+  power-up-sixes n = rw (step-up prims map m r, answerTo) (
+    (λ e. verdict-fails prims map (m .lent) n (six-verdict (verdictOf prims map (m .lent)) (lifeCycleIn map (m .lent)) n e)),
+    λ f. rw (fails-verdict prims map (m .lent) n f) refl,
+  )
+
+  module _ (h : (n : ℕ) → Fails prims map (m .lent) n → ⊥) where
+    -- where no check fails, what is decoded decides
+    life-answer : answerTo prims map PowerUp m ≡ wokenAnswer (lifeCycleWaking (lifeCycleIn map (m .lent)))
+    unfolding powerUp waking wakingOf
+    life-answer = rw (step-up prims map m r, answerTo, none-verdict prims map (m .lent) h) refl
+
+    pub power-up-scrap : (count : ℕ) → Encodes prims map (m .lent) 20 count → Says 0x07 (256 * count + 20) (answerTo prims map PowerUp m)
+    unfolding lifeCycleWaking wokenAnswer if_then_else_
+    power-up-scrap count e = rw (life-answer, decodes 20 count e) (refl, refl)
+
+    pub power-up-done : (state count : ℕ) → (state ≡ 20 → ⊥) → Encodes prims map (m .lent) state count → Says 0x00 (256 * count + state) (answerTo prims map PowerUp m)
+    unfolding lifeCycleWaking wokenAnswer if_then_else_
+    power-up-done state count n e = rw (life-answer, decodes state count e, ne-eqb state 20 n) (refl, refl)
+
+    -- no encoding gives 0xFFFF
+    not-invalid : (state count : ℕ) → Encodes prims map (m .lent) state count → Says 0x07 0xFFFF (answerTo prims map PowerUp m) → ⊥
+    not-invalid state count e q =
+        by-cases (eqb state 20)
+        (λ t. (let s = power-up-scrap count (rw (eqb-true state 20 t) at e) in omega (arith, s .1, q .1, e .countKnown)))
+        (λ t. (let s = power-up-done state count (eqb-false state 20 t) e in omega (arith, s .0, q .0)))
+
+    invalid-says : (life : LifeCycle) → ((state count : ℕ) → life ≡ Valid state count → ⊥) → Says 0x07 0xFFFF (wokenAnswer (lifeCycleWaking life))
+    unfolding lifeCycleWaking wokenAnswer
+    invalid-says Invalid n = (refl, refl)
+    invalid-says (Valid state count) n = absurd (n state count refl)
+
+    pub power-up-invalid : Says 0x07 0xFFFF (answerTo prims map PowerUp m) ↔ ((state count : ℕ) → Encodes prims map (m .lent) state count → ⊥)
+    power-up-invalid = (
+      (λ q state count e. not-invalid state count e q),
+      λ n. rw life-answer (invalid-says (lifeCycleIn map (m .lent)) (λ state count e. n state count (encoded prims map (m .lent) state count e))),
+    )
+
+-- ---- what is sensed
+
+-- what is neither unbuffered nor scrambled
+rest-kind {ℓ} : {X : Type ℓ} (k : Kind) → rightsOf k .lockable ≡ false → rightsOf k .scrambled ≡ false → (k ≡ kind.HwCfg → X) → (k ≡ kind.LifeCycle → X) → X
+unfolding rightsOf
+rest-kind kind.Software a b f g = absurd (true-not-false refl a)
+rest-kind kind.AuthState a b f g = absurd (true-not-false refl a)
+rest-kind kind.HwCfg a b f g = f refl
+rest-kind kind.Secret0 a b f g = absurd (true-not-false refl b)
+rest-kind kind.Secret1 a b f g = absurd (true-not-false refl b)
+rest-kind kind.Secret2 a b f g = absurd (true-not-false refl b)
+rest-kind kind.LifeCycle a b f g = g refl
+
+module _ (prims : Primitives) (map : Map) (F : fit map ≡ true) where
+  pub power-up-sensed : (m : Machine) → Right map m → codeOf (answerTo prims map PowerUp m) ≡ 0x00 → (n : ℕ) → Digested map n
+      → sensedAt (machineAfter prims map PowerUp m .session) n ≡ digestIn map n (m .lent .cells)
+  unfolding storedDigest
+  power-up-sensed m r z n D = since-sensed prims map F (m .lent .cells) (machineAfter prims map PowerUp m) (first-since prims map F m r z) n D
+
+  module _ (l : Lent) (j : ℕ) (low : j < limit map / 2) where
+    abbrev a : ℕ
+    a = 2 * j
+
+    abbrev p : Partition
+    p = partitionAt map a
+
+    within : a < limit map
+    within = omega arith
+
+    -- the block of a word of secret data
+    block : rightsOf (p .kind) .scrambled ≡ true → (key : Keyed (p .kind))
+        → getD (wordsOf (wordCount p a) (unscrambled prims (l .constants) p (granule p (l .cells) a))) (j - firstWord p a) 0
+        ≡ getD (wordsOf 4 (prims .decrypt (eightFrom (l .constants) (key .first)) (numberOf (partAt (l .cells) (j / 4 * 4) 4)))) (j % 4) 0
+    unfolding unscrambled granule
+    block s key =
+        let w = size-words p a 8 (granule-scrambled (inside map F within .fits) s a) in
+        let first : firstWord p a ≡ j / 4 * 4 = w .0 ∙ (let q : 2 * j / 8 * (8 / 2) ≡ j / 4 * 4 = omega arith in q) in
+        let place : j - j / 4 * 4 ≡ j % 4 = omega arith in
+        rw (first, w .1, place, key-is (l .constants) (key .at), s) (if-true-block key)
+      where
+        if-true-block : (key : Keyed (partitionAt map (2 * j) .kind))
+            → getD (wordsOf 4 (if true then prims .decrypt (eightFrom (l .constants) (key .first)) (numberOf (partAt (l .cells) (j / 4 * 4) 4)) else numberOf (partAt (l .cells) (j / 4 * 4) 4))) (j % 4) 0
+            ≡ getD (wordsOf 4 (prims .decrypt (eightFrom (l .constants) (key .first)) (numberOf (partAt (l .cells) (j / 4 * 4) 4)))) (j % 4) 0
+        if-true-block key = unfold if_then_else_ in refl
+
+    latched : Latched prims map l j (copyWord prims map (l .constants) (l .cells) j)
+    unfolding copyWord inDigest
+    latched =
+        if-both (Latched prims map l j) (rightsOf (p .kind) .lockable) _ _ (λ t. Latched.unbuffered (lockable-kind _ t))
+        λ t. if-both (Latched prims map l j) (rightsOf (p .kind) .scrambled && not (leb (p .digest) a)) _ _
+        (λ s. (let q = and-left (rightsOf (p .kind) .scrambled) _ s in
+        let key = scrambled-keyed (p .kind) q in
+        subst (Latched prims map l j) (sym (block q key)) (Latched.secret (leb-false _ _ (not-true _ (and-right (rightsOf (p .kind) .scrambled) _ s))) (key .at))))
+        λ s. by-cases (rightsOf (p .kind) .scrambled)
+        (λ q. Latched.secretDigest (leb-true _ _ (by-cases (leb (p .digest) a) (λ d. d) (λ d. absurd (true-not-false (and-both _ _ q (ap not d)) s)))) (scrambled-keyed (p .kind) q .at))
+        (λ q. rest-kind (p .kind) t q Latched.hwCfg Latched.lifeCycle)
+
+  pub power-up-copy : (m : Machine) → Right map m → codeOf (answerTo prims map PowerUp m) ≡ 0x00 → (j : ℕ) → j < limit map / 2
+      → Latched prims map (m .lent) j (getD (machineAfter prims map PowerUp m .lent .copy) j 0)
+  power-up-copy m r z j low =
+      let s = first-since prims map F m r z in
+      let k : machineAfter prims map PowerUp m .lent .constants ≡ m .lent .constants = step-constants prims map PowerUp m in
+      let e : getD (machineAfter prims map PowerUp m .lent .copy) j 0 ≡ copyWord prims map (m .lent .constants) (m .lent .cells) j
+      = ap (λ (w : List ℕ). getD w j 0) (s .copy) ∙ listed-at (copyWord prims map (machineAfter prims map PowerUp m .lent .constants) (m .lent .cells)) 0 (limit map / 2) j low
+      ∙ ap (λ (w : List ℕ). copyWord prims map w (m .lent .cells) j) k in
+      subst (Latched prims map (m .lent) j) (sym e) (latched (m .lent) j low)
