@@ -41,6 +41,8 @@ pub mod WordSizes
 pub mod DigestCodes
 pub mod DigestChecks
 pub mod PowerUpCodes
+pub mod Tokens
+pub mod LifeCycleTables
 pub mod FailedDigests
 pub mod FailedLifeCycles
 pub mod Everything

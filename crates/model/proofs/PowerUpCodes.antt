@@ -21,7 +21,8 @@ use Rattle.partitions.specs.declared.Kind.the-variants as kind
 use Rattle.partitions.specs.declared.Partition.{Partition}
 use Rattle.partitions.specs.Fitness.{fit}
 use Rattle.partitions.specs.Map.{Map, rightsOf, partition, partitionAt, limit, inDigest, firstWord, wordCount, numberOfKind, nowhere}
-use Rattle.partitions.proofs.Map.{inside, end-within}
+use Rattle.partitions.proofs.KindRights.{scrambled-not-lockable}
+use Rattle.partitions.proofs.Map.{inside}
 use Rattle.partitions.proofs.Granules.{granule-scrambled, size-words}
 use Rattle.life_cycle.specs.declared.LifeCycle.{LifeCycle}
 use Rattle.life_cycle.specs.declared.LifeCycle.the-variants.{Valid, Invalid}
@@ -39,7 +40,7 @@ use Rattle.model.specs.Step.{powerUp, machineAfter, answerTo}
 use Rattle.model.specs.Claims.Terms.{Right, Digested, Says}
 use Rattle.model.specs.Claims.Numbers.{KeyAt, Hardware, Lockable, eightFrom, digestIn, digestOf}
 use Rattle.model.specs.Claims.PowerUps.{Fails, FirstFails, Encodes, Latched}
-use Rattle.model.proofs.KindNames.{Keyed, hardware-kind, kind-hardware, lockable-kind, scrambled-keyed, key-is}
+use Rattle.model.proofs.KindNames.{Keyed, keyed-scrambled, hardware-kind, kind-hardware, lockable-kind, scrambled-keyed, key-is}
 use Rattle.model.proofs.Steps.{step-up, step-constants}
 use Rattle.model.proofs.Since.{first-since, since-sensed}
 
@@ -243,6 +244,14 @@ module _ (prims : Primitives) (map : Map) (F : fit map ≡ true) where
             → getD (wordsOf 4 (if true then prims .decrypt (eightFrom (l .constants) (key .first)) (numberOf (partAt (l .cells) (j / 4 * 4) 4)) else numberOf (partAt (l .cells) (j / 4 * 4) 4))) (j % 4) 0
             ≡ getD (wordsOf 4 (prims .decrypt (eightFrom (l .constants) (key .first)) (numberOf (partAt (l .cells) (j / 4 * 4) 4)))) (j % 4) 0
         if-true-block key = unfold if_then_else_ in refl
+
+    -- a word of secret data in the copy
+    pub secret-copy : {first : ℕ} → KeyAt (p .kind) first → a < p .digest → copyWord prims map (l .constants) (l .cells) j
+        ≡ getD (wordsOf 4 (prims .decrypt (eightFrom (l .constants) first) (numberOf (partAt (l .cells) (j / 4 * 4) 4)))) (j % 4) 0
+    unfolding copyWord inDigest
+    secret-copy {first} at d =
+        let s = keyed-scrambled at in
+        if-false _ _ (scrambled-not-lockable (p .kind) s) ∙ if-true _ _ (and-both _ _ s (ap not (lt-leb _ _ d))) ∙ block s (record { first = first; at = at })
 
     latched : Latched prims map l j (copyWord prims map (l .constants) (l .cells) j)
     unfolding copyWord inDigest

@@ -30,7 +30,7 @@ use Rattle.model.proofs.Order.{order}
 use Rattle.model.proofs.ReadCodes.{read-exact, read-shows, front-exact}
 use Rattle.model.proofs.NamedWords.{refused-named, locked-denied}
 use Rattle.model.proofs.SecondBurns.{found-blank, no-second-burn, granule-final}
-use Rattle.model.proofs.Writes.{write-taken, reads-back, reads-last}
+use Rattle.model.proofs.Writes.{write-taken, words-last, reads-back, reads-last}
 use Rattle.model.proofs.WriteCodes.{write-exact, write-allowed}
 use Rattle.model.proofs.OldRule.{old-rule}
 use Rattle.model.proofs.StoredWords.{write-stores, blank-lowest, cleared-lowest}
@@ -40,6 +40,8 @@ use Rattle.model.proofs.Courses.{never-four, courses-run, counts}
 use Rattle.model.proofs.TransitionCells.{step-told}
 use Rattle.model.proofs.TransitionCodes.{fair-exact, tokens-compared}
 use Rattle.model.proofs.TransitionLeaves.{leaves, reached-fair}
+use Rattle.model.proofs.LifeCycleTables.{life-cycles}
+use Rattle.model.proofs.Tokens.{tokens}
 use Rattle.model.proofs.TokenPlaces.{stored-place}
 use Rattle.model.proofs.Since.{since-held, since-reached}
 use Rattle.model.proofs.PowerUps.{alone, again, cleared, failed}
@@ -86,6 +88,7 @@ burns prims C map F = record {
   blanks = blank-lowest map;
   clearedBits = cleared-lowest map;
   allowed = write-allowed prims C map F;
+  stays = words-last prims C map F;
   lasting = reads-last prims C map F;
 }
 
@@ -165,6 +168,8 @@ claims prims C G map F = record {
   burns = burns prims C map F;
   oldRule = old-rule prims C map F;
   transitions = transitions prims map F;
+  lifeCycles = life-cycles prims map;
+  tokens = tokens prims C map F;
   digests = digests prims G map F;
   powerUps = power-ups prims map F;
   failedPowerUps = failed-power-ups prims G map F;

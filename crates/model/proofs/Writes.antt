@@ -338,6 +338,11 @@ module _ (prims : Primitives) (C : Cipher prims) (map : Map) (F : fit map ≡ tr
           let e : m₂ .lent .constants ≡ m₁ .lent .constants = after-constants prims map l₂ (s .result .machine) ∙ step-constants prims map (Write a value) m₁ in
           rw e (stays ∙ write-taken .holds)
 
+      pub words-last : (numberOf (storedWords prims map (m .lent .constants) a value) ≡ 0 → Spared prims map a l₂ (s .result .machine))
+          → (directRule (partitionAt map a) a ≡ KeepBits → Spared prims map a l₂ (s .result .machine))
+          → partAt (m₂ .lent .cells) (firstWord (partitionAt map a) a) (wordCount (partitionAt map a) a) ≡ storedWords prims map (m .lent .constants) a value
+      words-last spared again = lasting-stays spared again ∙ write-taken .holds ∙ ap (λ (k : List ℕ). storedWords prims map k a value) same-constants
+
       -- while Ready lasts, every read of the granule answers 0 and the data used
       pub reads-back : Spared prims map a l₂ (s .result .machine) → Lasts prims map l₂ (s .result .machine)
           → (b : ℕ) → b < limit map → firstWord (partitionAt map b) b ≡ firstWord (partitionAt map a) a

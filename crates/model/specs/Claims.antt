@@ -9,6 +9,8 @@ pub mod Reads
 pub mod Burns
 pub mod OldRule
 pub mod Transitions
+pub mod LifeCycles
+pub mod Tokens
 pub mod Digests
 pub mod PowerUps
 pub mod FailedPowerUps

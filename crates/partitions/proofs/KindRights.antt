@@ -102,3 +102,7 @@ soft-lockable Secret0 d e = absurd (true-not-false refl e)
 soft-lockable Secret1 d e = absurd (true-not-false refl e)
 soft-lockable Secret2 d e = absurd (true-not-false refl e)
 soft-lockable LifeCycle d e = absurd (true-not-false d refl)
+
+pub scrambled-not-lockable : (k : Kind) → rightsOf k .scrambled ≡ true → rightsOf k .lockable ≡ false
+unfolding rightsOf
+scrambled-not-lockable k e = not-true _ (granted-with (λ k. rightsOf k .scrambled) (λ k. not (rightsOf k .lockable)) (tt, tt, tt, tt, tt, tt, tt) k e)

@@ -1,5 +1,5 @@
 -- Laws of parts of an array, and of what storing a value there leaves. The idea: a part and `sets` go word by word, so each law is an induction on the words.
-use mathlib.Core.Path.{_≡_, refl, sym, _∙_}
+use mathlib.Core.Path.{_≡_, refl, sym, _∙_, ap₂}
 use mathlib.Core.List.{List, [], _∷_}
 use Prim.Native.Nat.{ℕ, zero, suc, _+_, _*_, _-_, _^_, _≤_, _<_}
 use native.Mathlib.Omega.{arith}
@@ -38,6 +38,17 @@ pub part-same : (c d : List ℕ) (at n : ℕ) → ((j : ℕ) → at ≤ j → j 
 unfolding partAt listed
 part-same c d at zero h = refl
 part-same c d at (suc n) h = rw (h at (omega arith) (omega arith), part-same c d (suc at) n (λ j l u. h j (omega arith) (omega arith)))
+
+-- a part is the words that stand there
+pub part-at : (c ws : List ℕ) (at n : ℕ) → length ws ≡ n → ((i : ℕ) → i < n → getD c (at + i) 0 ≡ getD ws i 0) → partAt c at n ≡ ws
+unfolding partAt listed
+part-at c [] at zero e h = refl
+part-at c [] at (suc n) e h = absurd (omega arith)
+part-at c (w ∷ ws) at zero e h = absurd (omega arith)
+part-at c (w ∷ ws) at (suc n) e h =
+    let here : at + 0 ≡ at = omega arith in
+    ap₂ _∷_ (rw here at (h 0 (omega arith)))
+    (part-at c ws (suc at) n (omega arith) (λ i l. (let there : suc at + i ≡ at + suc i = omega arith in rw there (h (suc i) (omega arith)))))
 
 -- a part inside the array is the slice that code takes
 pub part-slice : (c : List ℕ) (at n : ℕ) → at + n ≤ length c → partAt c at n ≡ take n (drop at c)

@@ -9,6 +9,8 @@ use Rattle.model.specs.Claims.Reads.{Reads}
 use Rattle.model.specs.Claims.Burns.{Burns}
 use Rattle.model.specs.Claims.OldRule.{OldRule}
 use Rattle.model.specs.Claims.Transitions.{Transitions}
+use Rattle.model.specs.Claims.LifeCycles.{LifeCycles}
+use Rattle.model.specs.Claims.Tokens.{Tokens}
 use Rattle.model.specs.Claims.Digests.{Digests}
 use Rattle.model.specs.Claims.PowerUps.{PowerUps}
 use Rattle.model.specs.Claims.FailedPowerUps.{FailedPowerUps}
@@ -24,6 +26,8 @@ pub record Claims (prims : Primitives) (map : Map) : Type 0 where
   pub burns : Burns prims map
   pub oldRule : OldRule prims map
   pub transitions : Transitions prims map
+  pub lifeCycles : LifeCycles prims map
+  pub tokens : Tokens prims map
   pub digests : Digests prims map
   pub powerUps : PowerUps prims map
   pub failedPowerUps : FailedPowerUps prims map

@@ -113,6 +113,17 @@ module _ (prims : Primitives) (map : Map) where
         → let m₀ = after prims map l₀ m in
         let m₁ = after prims map l₁ (machineAfter prims map PowerUp m₀) in
         (codeOf (answerTo prims map (Write a value) m₁) ≡ 0x00) ↔ Allowed prims map (m .lent .constants) (m₀ .lent .cells) (m₁ .lent .cells) a value
+    -- what a write that the rules allowed has stored stays stored, whatever follows, power-ups and transitions too. Only where the stored form is zero, or by the old rule,
+    -- may the granule be written again: there, while no other write to it answers 0.
+    pub stays : (m : Machine) → Right map m → (l₀ l₁ : List Command) → Ready prims map m l₀ l₁ → (a value : ℕ) → value < 2 ^ 64
+        → let m₀ = after prims map l₀ m in
+        let m₁ = after prims map l₁ (machineAfter prims map PowerUp m₀) in
+        let s = step prims map (Write a value) m₁ in
+        let stored = storedWords prims map (m .lent .constants) a value in
+        Allowed prims map (m .lent .constants) (m₀ .lent .cells) (m₁ .lent .cells) a value
+        → (l₂ : List Command) → (numberOf stored ≡ 0 → Spared prims map a l₂ (s .result .machine))
+        → (directRule (partitionAt map a) a ≡ KeepBits → Spared prims map a l₂ (s .result .machine))
+        → partAt (after prims map l₂ (s .result .machine) .lent .cells) (firstWord (partitionAt map a) a) (wordCount (partitionAt map a) a) ≡ stored
     -- what a write that the rules allowed has stored is what is ever read there: whatever follows, power-ups and transitions too, each read of its
     -- granule that answers 0 answers the data used. Only where the stored form is zero, or by the old rule, may the granule be written again: there, while no
     -- other write to it answers 0.
