@@ -1,46 +1,72 @@
+-- What is lent holds the words of the frame before it is stepped on.
 use borrow.Author.Needs.{needs}
+use native.Mathlib.Omega.{arith}
+use Rattle.frames.proofs.Steps.{lent-most, step-filled}
 use Rattle.frames.proofs.step_over.Statement.{statement}
 use Rattle.frames.proofs.step_over.Tie as tie
-use Rattle.frames.proofs.step_over.Reads as reads
-use Rattle.frames.proofs.step_over.Lts as lts
-use Rattle.frames.proofs.fill_words.Reads as fill-words-reads
-use Rattle.frames.proofs.step_on.Reads as step-on-reads
 
--- src/lib.rt:349:5
+abbrev start : tie.After-fill-words → tie.Start
+start t = t .before .before .before .before .before .before .before
+
+abbrev first : tie.After-fill-words2 → tie.After-fill-words
+first t = t .before .before .before .before .before
+
+abbrev second : tie.After-fill-words3 → tie.After-fill-words2
+second t = t .before .before .before .before .before
+
 fill-words-requires : tie.Need-fill-words-requires
-fill-words-requires c κs = ?
+fill-words-requires c κs =
+    let s = c .before .before .before .before .before .before in
+    omega (arith, lent-most (s .args .frame .now) 104 1030, s .pre)
 
--- src/lib.rt:350:5
 fill-words-requires-2 : tie.Need-fill-words-requires-2
-fill-words-requires-2 c κs = ?
+fill-words-requires-2 c κs =
+    let s = start (c .before .before .before .before) in
+    omega (arith, lent-most (s .args .frame .now) 106 1030, s .pre)
 
--- src/lib.rt:351:5
 fill-words-requires-3 : tie.Need-fill-words-requires-3
-fill-words-requires-3 c κs = ?
+fill-words-requires-3 c κs =
+    let s = start (first (c .before .before .before .before)) in
+    omega (arith, lent-most (s .args .frame .now) 110 180, s .pre)
 
--- src/lib.rt:352:5
 step-on-requires : tie.Need-step-on-requires
-step-on-requires c κs = ?
+step-on-requires c κs =
+    let t = c .before .before .before .before .before .before in
+    let p = second t in
+    let q = first p in
+    let s = start q in
+    omega (
+      arith,
+      lent-most (s .args .frame .now) 104 1030,
+      lent-most (s .args .frame .now) 106 1030,
+      s .pre,
+      q .fill-words .kept .1 .1 .0,
+      p .fill-words2 .kept .1 .1 .0,
+    )
 
--- src/lib.rt:345:1
-same-length : tie.Need-same-length
-same-length c = search needs
-
--- src/lib.rt:345:1
-same-length-2 : tie.Need-same-length-2
-same-length-2 c = search needs
-
--- src/lib.rt:345:1
-same-length-3 : tie.Need-same-length-3
-same-length-3 c = search needs
-
--- src/lib.rt:345:1
-same-length-4 : tie.Need-same-length-4
-same-length-4 c = search needs
-
--- src/lib.rt:345:1
 returns : tie.Need-returns
-returns c = ?
+returns c =
+    let d = c .before .before .before .before .before .before in
+    let t = d .before .before .before .before .before .before .before in
+    let p = second t in
+    let q = first p in
+    let s = start q in
+    step-filled
+    (s .args .frame .now)
+    (q .fill-words .last .1 .1 .0)
+    (p .fill-words2 .last .1 .1 .0)
+    (t .fill-words3 .last .1 .1 .0)
+    _
+    _
+    _
+    _
+    (q .fill-words .ensures)
+    (p .fill-words2 .ensures)
+    (t .fill-words3 .ensures)
+    (s .pre .1)
+    (s .pre .2)
+    (s .pre .3)
+    (d .step-on .ensures)
 
 pub step-over-spec : {M : Type 1} → statement M
 step-over-spec =
@@ -50,8 +76,8 @@ step-over-spec =
     fill-words-requires-2
     fill-words-requires-3
     step-on-requires
-    same-length
-    same-length-2
-    same-length-3
-    same-length-4
+    (λ c. search needs)
+    (λ c. search needs)
+    (λ c. search needs)
+    (λ c. search needs)
     returns)
