@@ -1,6 +1,6 @@
 -- Laws of numbers in bytes. The idea: byte i of a number is what is left above the bytes before it, modulo 256.
 use Prim.Native.Nat.{ℕ, zero, suc, _+_, _*_, _/_, _%_, _^_, _≤_, _<_}
-use mathlib.Core.Path.{_≡_, refl, sym, ap, ap₂, _∙_}
+use mathlib.Core.Path.{_≡_, refl, sym, ap, _∙_}
 use mathlib.Core.List.{List, [], _∷_, _++_, append-assoc, append-nil}
 use native.Mathlib.Nat.{add-zero, pow-suc, div-div-eq-div-mul, mul-suc}
 use native.Mathlib.Numerals.{add-one}
@@ -81,7 +81,7 @@ pub filled-all : (old new : List ℕ) (i : ℕ) → length new ≡ length old �
 filled-all old new i e h = rw (take-all i new (omega arith), drop-of-length-le old {i = i} h) (append-nil new)
 
 -- the bytes of a digest after those of the digests before it
-module _ (old xs : List ℕ) (i : ℕ) (room : length old ≡ 80) (ten : length xs ≡ 10) where
+module _ (old xs : List ℕ) (i : ℕ) (size : length old ≡ 80) (ten : length xs ≡ 10) where
   abbrev Stored : ℕ → List ℕ
   Stored n = allBytes 8 (take n xs) ++ drop (8 * n) old
 
@@ -126,7 +126,7 @@ word-high (w ∷ words) (suc i) h =
     rw e (word-high words i (omega arith))
 
 -- a loop stores the two bytes of a word after those of the words before it
-module _ (old words : List ℕ) (i : ℕ) (room : length old ≡ 2 * length words) where
+module _ (old words : List ℕ) (i : ℕ) (size : length old ≡ 2 * length words) where
   abbrev Filled : ℕ → List ℕ
   Filled n = take n (allBytes 2 words) ++ drop n old
 

@@ -1,4 +1,4 @@
 pub mod Bytes
 pub mod Locks
+pub mod Parts
 pub mod Steps
-pub mod Writing

@@ -1,11 +1,11 @@
 -- Laws of a step, over what its code found. The idea: the reading decides which clause of `stepBy` is due.
 use Prim.Native.Nat.{ℕ, _≤_}
-use mathlib.Core.Path.{_≡_, refl, sym, ap, ap₂, _∙_}
+use mathlib.Core.Path.{_≡_, refl, ap, ap₂, _∙_}
 use mathlib.Core.List.{List}
 use mathlib.Core.Logic.{⊎-elim}
 use native.Mathlib.Omega.{arith}
 use lib.Dec.{ltb}
-use borrow.Author.Tests.{ltb-true, ltb-false}
+use borrow.Author.Tests.{ltb-false}
 use Rattle.basics.proofs.Choice.{if-both}
 use Rattle.partitions.specs.declared.MapName.{MapName}
 use Rattle.partitions.specs.Map.{Map}
@@ -22,23 +22,8 @@ use Rattle.script.specs.Records.{numberAt, nextAt}
 use Rattle.script.proofs.Records.{Other}
 use Rattle.frames.specs.declared.Stepped.{Stepped}
 use Rattle.frames.specs.Bytes.{numbersAt}
-use Rattle.frames.specs.Frames.{
-  mapIn,
-  sessionIn,
-  lentIn,
-  recordIn,
-  Step,
-  stepBy,
-  stepOf,
-  stepWith,
-  refusedOf,
-  withSession,
-  withAnswer,
-  withMemory,
-  frameWith,
-  frameOn,
-  frameAfter,
-}
+use Rattle.frames.specs.Frames.{mapIn, sessionIn, lentIn, recordIn, Step, stepBy, stepOf, stepWith, refusedOf}
+use Rattle.frames.specs.Frames.{withSession, withAnswer, withMemory, frameWith, frameOn, frameAfter}
 
 pub step-refused : (map : Map) (n : Reading) (cells copy constants : List ℕ) (session : Session) → Other n
     → stepWith cells copy constants (refusedOf n session) ≡ stepBy map n (machineOf cells copy constants session)

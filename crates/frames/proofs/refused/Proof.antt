@@ -1,6 +1,6 @@
 -- Each arm is `refusedOf` at its reading.
 use borrow.Author.Needs.{needs}
-use mathlib.Core.Path.{_≡_, refl, sym, ap, _∙_}
+use mathlib.Core.Path.{_≡_, sym, ap}
 use Rattle.script.specs.declared.Reading.{Reading}
 use Rattle.frames.specs.Frames.{refusedOf}
 use Rattle.frames.proofs.refused.Statement.{statement}
