@@ -68,6 +68,13 @@ def look_at_hashes(independent):
             sys.exit("the hash of the token %032x is not the independent program's" % token)
 
 
+def frames(independent):
+    """Three frames and the start of a fourth, and what comes of them: what `machine_steps` is run on."""
+    four = subprocess.run([independent, "frames", "4", "53"], stdout=subprocess.PIPE, check=True).stdout
+    cut = four[: 3 * 5120 + 1024]
+    return {"stdin": cut, "stdout": subprocess.run([independent, "steps"], input=cut, stdout=subprocess.PIPE, check=True).stdout}
+
+
 def made(independent):
     """All files, by their paths from the root."""
     if len({name for name, *_ in RUNS}) != len(RUNS):
@@ -85,6 +92,7 @@ def made(independent):
     data = {"stdin": EXAMPLE, "stdout": runs_of_map1.EXAMPLE_LINES}
     data.update({os.path.join("data", "image.bin"): words(MAP1.blank), os.path.join("data", "constants.bin"): words(GOOD)})
     files.update({os.path.join(bench, file): value for file, value in data.items()})
+    files.update({os.path.join("crates", "machine_steps", file): value for file, value in frames(independent).items()})
     return files
 
 

@@ -11,10 +11,12 @@ mod compare;
 mod constants;
 mod cshake;
 mod digest;
+mod frames;
 mod hash_inputs;
 mod inputs;
 mod keccak;
 mod life_cycle;
+mod machines;
 mod map;
 #[cfg(test)]
 mod map_2_cases;
@@ -29,6 +31,7 @@ mod runs;
 mod scenarios;
 mod script;
 mod speed;
+mod steps;
 mod sweeps;
 #[cfg(test)]
 mod the_cases;
@@ -48,11 +51,15 @@ const USAGE: &str = "usage:
   independent speed [PROGRAM..]
   independent speed-power-up PROGRAM..
   independent compare-runs PROGRAM [COUNT] [SEED]
+  independent compare-steps PROGRAM [COUNT] [SEED]
+  independent frames COUNT [SEED]
+  independent steps
   independent hash TOKEN
   independent bench";
 
 const CASES: u64 = 24_000;
 const RUNS: u64 = 2_100;
+const STEPS: u64 = 40_000;
 const SEED: u64 = 20_260;
 
 fn main() -> ExitCode {
@@ -89,6 +96,24 @@ fn perform(arguments: &[String]) -> Result<bool, String> {
             println!("seed {seed}");
             runs::compare(&arguments[1], count, &mut Random::new(seed))
         }
+        (Some("compare-steps"), 2..=4) => {
+            let count = number(arguments.get(2), STEPS)?;
+            let seed = number(arguments.get(3), SEED)?;
+            println!("seed {seed}");
+            steps::compare(Path::new(&arguments[1]), count, &mut Random::new(seed))
+        }
+        (Some("frames"), 2..=3) => {
+            let count = number(arguments.get(1), 0)?;
+            let seed = number(arguments.get(2), SEED)?;
+            match machines::write(count, &mut Random::new(seed)) {
+                Ok(()) => Ok(true),
+                Err(error) => Err(error.to_string()),
+            }
+        }
+        (Some("steps"), 1) => match frames::run() {
+            Ok(()) => Ok(true),
+            Err(error) => Err(error.to_string()),
+        },
         (Some("hash"), 2) => {
             println!("{:032x}", token::hash(token::given(&arguments[1])?));
             Ok(true)

@@ -147,7 +147,8 @@ impl Chip {
         match partition.kind {
             Kind::Secret(_) if sensed_locked => NOT_ALLOWED,
             Kind::Secret(secret) => Answer::done(self.unscramble(secret, stored)),
-            _ if self.session.read_locks[number] => NOT_ALLOWED,
+            // A record may say that another partition is locked: it has no lock.
+            _ if partition.has_software_digest() && self.session.read_locks[number] => NOT_ALLOWED,
             _ => Answer::done(stored),
         }
     }

@@ -105,7 +105,8 @@ fn cut(random: &mut Random) -> Vec<u8> {
     bytes
 }
 
-fn unknown_kind(random: &mut Random) -> u8 {
+/// A kind that no record has.
+pub fn unknown_kind(random: &mut Random) -> u8 {
     match random.below(3) {
         0 => random.choose(&[0, 8, 9, 0x10, 0x17, 0x80, 0x81, 0xff]),
         _ => 8 + random.below(248) as u8,

@@ -37,13 +37,27 @@ fn command(chip: &Chip, tokens: &mut RawTokens, random: &mut Random) -> Command 
     if chip.session.phase != Phase::Ready && !random.one_in(3) {
         return Command::PowerUp;
     }
-    match random.below(24) {
-        0..=5 => Command::Read(address(&chip.map, random)),
-        6..=12 => write(chip, write_address(&chip.map, random), tokens, random),
-        13..=14 => Command::FrontRead(front_address(&chip.map, random)),
-        15..=17 => Command::Digest(digest_address(&chip.map, random)),
-        18 => Command::ReadLock(lock_number(&chip.map, random)),
-        19..=21 => transition(chip, tokens, random),
+    let kind = match random.below(24) {
+        0..=5 => 1,
+        6..=12 => 2,
+        13..=14 => 3,
+        15..=17 => 4,
+        18 => 5,
+        19..=21 => 6,
+        _ => 7,
+    };
+    of_kind(kind, chip, tokens, random)
+}
+
+/// A command of a script's kind, 1 to 7.
+pub fn of_kind(kind: u8, chip: &Chip, tokens: &mut RawTokens, random: &mut Random) -> Command {
+    match kind {
+        1 => Command::Read(address(&chip.map, random)),
+        2 => write(chip, write_address(&chip.map, random), tokens, random),
+        3 => Command::FrontRead(front_address(&chip.map, random)),
+        4 => Command::Digest(digest_address(&chip.map, random)),
+        5 => Command::ReadLock(lock_number(&chip.map, random)),
+        6 => transition(chip, tokens, random),
         _ => Command::PowerUp,
     }
 }

@@ -1,0 +1,4 @@
+pub mod Bytes
+pub mod Locks
+pub mod Parts
+pub mod Steps
