@@ -54,7 +54,7 @@ fn perform(
 ) -> Stepped
     ensures { λ r. ⌜ stepWith (now (cells .exit)) (now (copy .exit)) (now (constants .entry)) r ≡ stepOf (mapOf map) (now (script .entry)) (machineOf (now (cells .entry)) (now (copy .entry)) (now (constants .entry)) session) ⌝ }
 {
-    let reading = script::next_at(script, 0);
+    let reading = script::read_at(script, 0);
     let Reading::Record(command, _) = reading else {
         return refused(reading, session);
     };

@@ -1,27 +1,22 @@
 -- When a digest command answers 5 and 4. The idea: an address that is the start of a partition is in that partition, so that the guards of the act are the conditions of the
 -- rule; past them the four words of the location decide.
 use mathlib.Core.Path.{_≡_, refl, sym, ap, _∙_}
-use mathlib.Core.Bool.{true, false, not}
+use mathlib.Core.Bool.{true, not}
 use mathlib.Core.List.{List}
 use mathlib.Core.Logic.{_↔_}
-use Prim.Native.Nat.{ℕ, _+_, _/_, _≤_, _<_}
+use Prim.Native.Nat.{ℕ, _/_, _<_}
 use native.Mathlib.Omega.{arith}
 use lib.Dec.{eqb, leb}
-use lib.ListN.{length, getD}
-use borrow.Author.Tests.{eqb-true, eqb-false, eq-eqb, ne-eqb, leb-true, leb-false, le-leb, lt-leb, not-false, not-true}
-use Rattle.basics.proofs.Choice.{true-not-false, not-passed, if-both}
-use Rattle.words.specs.declared.Rule.the-variants.{BlankOnly}
+use borrow.Author.Tests.{eqb-true, eq-eqb, leb-false, lt-leb, not-false, not-true}
+use Rattle.basics.proofs.Choice.{true-not-false, if-both}
 use Rattle.words.specs.declared.Programmed.{Programmed}
-use Rattle.words.specs.declared.Programmed.the-variants as programmed
 use Rattle.words.specs.Words.{wordsOf}
-use Rattle.words.specs.Programming.{programAnswer, Lowest}
+use Rattle.words.specs.Programming.{programAnswer}
 use Rattle.words.proofs.Words.{length-words}
 use Rattle.words.proofs.Programming.{refused-not-done, refused-lowest, lowest-refused}
-use Rattle.words.proofs.Rules.{blank-passed}
 use Rattle.partitions.specs.Fitness.{fit}
-use Rattle.partitions.specs.Map.{Map, rightsOf, numberAt, partition, partitionAt, limit}
+use Rattle.partitions.specs.Map.{Map, rightsOf, numberAt, partitionAt, limit}
 use Rattle.partitions.proofs.Map.{inside, only, partition-at, partition-fit, end-within}
-use Rattle.model.specs.declared.Phase.the-variants as phase
 use Rattle.model.specs.declared.Answer.{Answer}
 use Rattle.model.specs.declared.Answer.the-variants.{Done, NotBlank, Denied}
 use Rattle.model.specs.declared.Command.the-variants.{Digest}
@@ -37,6 +32,8 @@ use Rattle.model.proofs.KindNames.{hardware-kind, kind-hardware}
 use Rattle.model.proofs.Acts.{after-both}
 use Rattle.model.proofs.Steps.{step-obeys}
 use Rattle.model.proofs.StoredWords.{lowest-blank}
+use Rattle.words.specs.declared.Programmed.the-variants as programmed
+use Rattle.model.specs.declared.Phase.the-variants as phase
 
 module _ (prims : Primitives) (map : Map) (F : fit map ≡ true) (m : Machine) (a : ℕ) where
   -- an allowed command's address is in its partition

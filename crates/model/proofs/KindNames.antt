@@ -5,10 +5,10 @@ use mathlib.Core.List.{List}
 use Prim.Native.Nat.{ℕ}
 use Rattle.basics.proofs.Choice.{true-not-false}
 use Rattle.partitions.specs.declared.Kind.{Kind}
-use Rattle.partitions.specs.declared.Kind.the-variants as kind
 use Rattle.partitions.specs.Map.{rightsOf}
 use Rattle.model.specs.Lent.{keyOf}
 use Rattle.model.specs.Claims.Numbers.{KeyAt, Plain, Hardware, Lockable, eightFrom}
+use Rattle.partitions.specs.declared.Kind.the-variants as kind
 
 pub hardware-kind : (k : Kind) → rightsOf k .hardware ≡ true → Hardware k
 unfolding rightsOf

@@ -1,21 +1,20 @@
 -- The tables of the life cycle in literal numbers. The idea: each is computed; a fact of all states and targets is a computed test.
 use mathlib.Core.Path.{_≡_, refl, sym, ap, subst, _∙_}
-use mathlib.Core.Bool.{Bool, true, false, not, _&&_, _||_}
+use mathlib.Core.Bool.{Bool, true, false, not}
 use mathlib.Core.List.{List}
 use mathlib.Core.Logic.{_⊎_, inl, inr, ⊎-elim}
-use Prim.Native.Nat.{ℕ, suc, _+_, _*_, _^_, _≤_, _<_}
+use Prim.Native.Nat.{ℕ, _+_, _*_, _^_, _≤_, _<_}
 use native.Mathlib.Omega.{arith}
 use lib.Dec.{eqb, ltb}
 use lib.ListN.{getD}
 use borrow.Author.Tests.{ne-eqb}
 use Rattle.basics.specs.Choice.{if_then_else_}
-use Rattle.basics.specs.Digits.{digit, bit}
+use Rattle.basics.specs.Digits.{bit}
 use Rattle.basics.specs.Range.{allBelow, listed}
 use Rattle.basics.proofs.Choice.{true-not-false, to-T, if-false}
 use Rattle.basics.proofs.Range.{all-at}
 use Rattle.partitions.specs.Map.{Map}
 use Rattle.life_cycle.specs.declared.Token.{Token}
-use Rattle.life_cycle.specs.declared.Token.the-variants as token
 use Rattle.life_cycle.specs.declared.Entry.{Entry}
 use Rattle.life_cycle.specs.declared.Entry.the-variants.{Allowed, Forbidden}
 use Rattle.life_cycle.specs.Words.{counterWord, counterWords, hasB, stateWord, stateWords}
@@ -29,6 +28,7 @@ use Rattle.model.specs.Step.{answerTo}
 use Rattle.model.specs.Claims.Transitions.{Compared, Asked}
 use Rattle.model.specs.Claims.LifeCycles.{rows, marks, LifeCycles}
 use Rattle.model.proofs.TransitionCodes.{tokens-compared}
+use Rattle.life_cycle.specs.declared.Token.the-variants as token
 
 table : listed (λ state. listed (transition state) 0 21) 0 21 ≡ rows
 unfolding listed transition isTest isUnlocked isLocked testIndex if_then_else_

@@ -1,28 +1,22 @@
 -- The refusals that all commands share. The idea: once what is lent is right, no act and no power-up answers 0x10 or 0x12; which answers an act gives is read off its ends.
-use mathlib.Core.Path.{_≡_, refl, sym, ap, subst, _∙_}
-use mathlib.Core.Bool.{Bool, true, false, not, _&&_, _||_}
+use mathlib.Core.Path.{_≡_, refl, ap, _∙_}
+use mathlib.Core.Bool.{true, false, not, _||_}
 use mathlib.Core.List.{List}
 use mathlib.Core.Logic.{_↔_}
-use mathlib.Core.Option.{Option}
-use Prim.Native.Nat.{ℕ, zero, suc, _+_, _/_, _<_}
+use Prim.Native.Nat.{ℕ, _+_, _<_}
 use native.Mathlib.Omega.{arith}
-use lib.Bits.{bitOr}
 use lib.Dec.{eqb}
-use lib.ListN.{length, getD}
-use borrow.Author.Tests.{eqb-true, eqb-false, eq-eqb, ne-eqb, not-false, not-true}
+use lib.ListN.{getD}
+use borrow.Author.Tests.{eqb-false, eq-eqb, ne-eqb, not-false, not-true}
 use Rattle.basics.specs.Range.{allBelow}
-use Rattle.basics.proofs.Choice.{by-cases, true-not-false, not-passed, from-T, to-T, and-left, and-right, and-both, and-three, if-both, if-true, if-false}
+use Rattle.basics.proofs.Choice.{true-not-false, to-T, and-left, and-right, and-both, if-both}
 use Rattle.basics.proofs.Range.{all-at, all-below}
-use Rattle.words.specs.Programming.{losesBit}
 use Rattle.words.proofs.Rules.{or-keeps, keeps-or}
-use Rattle.partitions.specs.Map.{Map, limit}
-use Rattle.life_cycle.specs.declared.LifeCycle.{LifeCycle}
+use Rattle.partitions.specs.Map.{Map}
 use Rattle.life_cycle.specs.Constants.{constC, constD, constA, constB, pairValid, validConstants}
 use Rattle.life_cycle.specs.Transitions.{transition}
 use Rattle.life_cycle.proofs.Constants.{pair}
-use Rattle.model.specs.declared.Reason.{Reason}
 use Rattle.model.specs.declared.Phase.{Phase}
-use Rattle.model.specs.declared.Phase.the-variants as phase
 use Rattle.model.specs.declared.Answer.{Answer}
 use Rattle.model.specs.declared.Answer.the-variants.{Done, NotBlank, Denied, DigestFailed, NotReady, LifeCycleFailed, WrongLength, UnknownTarget, InvalidConstants, StrokesUsed, NotInTable, TokenNotLocked, TokenDiffers}
 use Rattle.model.specs.declared.Command.{Command}
@@ -41,6 +35,7 @@ use Rattle.model.proofs.Transitions.{Ends, entry-gives}
 use Rattle.model.proofs.Steps.{judged-obeys, obeys-act, lengths-of}
 use Rattle.model.proofs.Waking.{woken-answer}
 use Rattle.model.proofs.NotReady.{no-power-up, step-not-ready}
+use Rattle.model.specs.declared.Phase.the-variants as phase
 
 -- ---- the answers of an act
 

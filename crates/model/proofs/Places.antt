@@ -1,13 +1,13 @@
 -- Partitions and granules by address, in numbers. The idea: in a fit map partitions adjoin, so that the range holds the address of one alone; a granule of 4 or 8 bytes begins at a
 -- multiple of its size.
-use mathlib.Core.Path.{_≡_, refl, sym, _∙_}
+use mathlib.Core.Path.{_≡_}
 use mathlib.Core.Bool.{true}
 use mathlib.Core.Logic.{_↔_}
 use Prim.Native.Nat.{ℕ, _+_, _*_, _/_, _≤_, _<_}
 use native.Mathlib.Omega.{arith}
 use borrow.Author.Tests.{le-leb, lt-leb}
 use Rattle.partitions.specs.Fitness.{fit}
-use Rattle.partitions.specs.Map.{Map, numberAt, partition, partitionAt, limit, inDigest, firstWord, wordCount}
+use Rattle.partitions.specs.Map.{Map, numberAt, partitionAt, limit, inDigest, firstWord, wordCount}
 use Rattle.partitions.proofs.Map.{inside, only}
 use Rattle.partitions.proofs.Granules.{by-granule, granule-digest, granule-plain, granule-scrambled, size-words}
 use Rattle.model.specs.Claims.Numbers.{KeyAt, Plain}

@@ -5,31 +5,26 @@ use mathlib.Core.Bool.{Bool, true, false, not, _&&_, _||_}
 use mathlib.Core.List.{List, [], _∷_}
 use mathlib.Core.Logic.{_↔_}
 use mathlib.Core.Option.{Option, none, some}
-use Prim.Native.Nat.{ℕ, zero, suc, _+_, _*_, _-_, _/_, _%_, _≤_, _<_}
+use Prim.Native.Nat.{ℕ, zero, suc, _+_, _*_, _-_, _/_, _%_, _<_}
 use native.Mathlib.Omega.{arith}
 use lib.Dec.{eqb, leb}
 use lib.ListN.{length, getD}
-use borrow.Author.Tests.{eqb-true, eqb-false, eq-eqb, ne-eqb, leb-true, leb-false, le-leb, lt-leb, not-false, not-true}
+use borrow.Author.Tests.{eqb-true, eqb-false, ne-eqb, leb-true, leb-false, lt-leb, not-false, not-true}
 use Rattle.basics.specs.Choice.{if_then_else_}
-use Rattle.basics.specs.Range.{listed}
-use Rattle.basics.proofs.Choice.{by-cases, true-not-false, not-passed, and-left, and-right, and-both, and-false, or-none-left, or-none-right, if-both, if-true, if-false}
+use Rattle.basics.proofs.Choice.{by-cases, true-not-false, and-left, and-right, and-both, or-none-left, or-none-right, if-both, if-true, if-false}
 use Rattle.basics.proofs.Range.{listed-at}
 use Rattle.words.specs.Words.{numberOf, wordsOf, partAt}
-use Rattle.words.proofs.Words.{Words}
 use Rattle.partitions.specs.declared.Kind.{Kind}
-use Rattle.partitions.specs.declared.Kind.the-variants as kind
 use Rattle.partitions.specs.declared.Partition.{Partition}
 use Rattle.partitions.specs.Fitness.{fit}
-use Rattle.partitions.specs.Map.{Map, rightsOf, partition, partitionAt, limit, inDigest, firstWord, wordCount, numberOfKind, nowhere}
+use Rattle.partitions.specs.Map.{Map, rightsOf, partition, partitionAt, limit, inDigest, firstWord, wordCount, nowhere}
 use Rattle.partitions.proofs.KindRights.{scrambled-not-lockable}
 use Rattle.partitions.proofs.Map.{inside}
 use Rattle.partitions.proofs.Granules.{granule-scrambled, size-words}
 use Rattle.life_cycle.specs.declared.LifeCycle.{LifeCycle}
 use Rattle.life_cycle.specs.declared.LifeCycle.the-variants.{Valid, Invalid}
-use Rattle.life_cycle.specs.Words.{counterWords, stateWords, decoded}
 use Rattle.life_cycle.proofs.Decoding.{decoded-says, decoded-valid}
-use Rattle.model.specs.declared.Answer.{Answer}
-use Rattle.model.specs.declared.Answer.the-variants.{Done, DigestFailed, LifeCycleFailed}
+use Rattle.model.specs.declared.Answer.the-variants.{DigestFailed}
 use Rattle.model.specs.declared.Command.the-variants.{PowerUp}
 use Rattle.model.specs.Answers.{codeOf, valueOf}
 use Rattle.model.specs.Session.{sensedAt}
@@ -38,11 +33,12 @@ use Rattle.model.specs.Commands.{granule, storedDigest, dataWords, compu
 use Rattle.model.specs.PowerUp.{digestHolds, firstFailing, verdictOf, lifeCycleIn, copyWord, wakingOf, lifeCycleWaking, waking, wokenAnswer}
 use Rattle.model.specs.Step.{powerUp, machineAfter, answerTo}
 use Rattle.model.specs.Claims.Terms.{Right, Digested, Says}
-use Rattle.model.specs.Claims.Numbers.{KeyAt, Hardware, Lockable, eightFrom, digestIn, digestOf}
+use Rattle.model.specs.Claims.Numbers.{KeyAt, eightFrom, digestIn, digestOf}
 use Rattle.model.specs.Claims.PowerUps.{Fails, FirstFails, Encodes, Latched}
 use Rattle.model.proofs.KindNames.{Keyed, keyed-scrambled, hardware-kind, kind-hardware, lockable-kind, scrambled-keyed, key-is}
 use Rattle.model.proofs.Steps.{step-up, step-constants}
 use Rattle.model.proofs.Since.{first-since, since-sensed}
+use Rattle.partitions.specs.declared.Kind.the-variants as kind
 
 -- ---- the first partition that fails
 

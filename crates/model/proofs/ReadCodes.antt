@@ -4,21 +4,18 @@ use mathlib.Core.Path.{_≡_, refl, sym, ap, subst, _∙_}
 use mathlib.Core.Bool.{true, false, not, _&&_}
 use mathlib.Core.List.{List}
 use mathlib.Core.Logic.{_↔_}
-use Prim.Native.Nat.{ℕ, _*_, _/_, _≤_, _<_}
+use Prim.Native.Nat.{ℕ, _*_, _/_, _<_}
 use native.Mathlib.Omega.{arith}
-use lib.Dec.{eqb, leb}
-use borrow.Author.Tests.{eqb-true, eq-eqb, ne-eqb, eqb-false, leb-true, leb-false, le-leb, lt-leb, not-false, not-true}
-use Rattle.basics.specs.Choice.{if_then_else_}
-use Rattle.basics.proofs.Choice.{by-cases, true-not-false, not-passed, and-left, and-right, and-both, and-false, if-both, if-true, if-false}
+use lib.Dec.{leb}
+use borrow.Author.Tests.{ne-eqb, eqb-false, leb-true, leb-false, lt-leb, not-false, not-true}
+use Rattle.basics.proofs.Choice.{by-cases, true-not-false, and-left, and-right, and-both, if-both, if-true, if-false}
 use Rattle.words.specs.Words.{numberOf, partAt}
-use Rattle.partitions.specs.declared.Kind.the-variants as kind
 use Rattle.partitions.specs.declared.Partition.{Partition}
 use Rattle.partitions.specs.Fitness.{fit}
 use Rattle.partitions.specs.Map.{Map, rightsOf, numberAt, partitionAt, limit, inDigest, firstWord, wordCount}
 use Rattle.partitions.proofs.KindRights.{life-cycle-only, front-not-scrambled}
 use Rattle.partitions.proofs.Map.{FitPartition, inside}
 use Rattle.partitions.proofs.Granules.{granule-plain, granule-scrambled, size-words, digest-words}
-use Rattle.model.specs.declared.Phase.the-variants as phase
 use Rattle.model.specs.declared.Answer.{Answer}
 use Rattle.model.specs.declared.Answer.the-variants.{Done, Denied}
 use Rattle.model.specs.declared.Command.the-variants.{Read, FrontRead}
@@ -31,9 +28,10 @@ use Rattle.model.specs.Step.{performed, act, obey, answerTo}
 use Rattle.model.specs.Claims.Terms.{Right, Says}
 use Rattle.model.specs.Claims.Numbers.{Shown, eightFrom}
 use Rattle.model.specs.Claims.Reads.{ReadDenied, past, inLifeCycle, locked, secretLocked, InHwCfgData}
-use Rattle.model.proofs.KindNames.{Keyed, lockable-kind, kind-lockable, scrambled-keyed, keyed-scrambled, key-is, plain-kind, front-kind, kind-front}
+use Rattle.model.proofs.KindNames.{lockable-kind, kind-lockable, scrambled-keyed, keyed-scrambled, key-is, plain-kind, front-kind, kind-front}
 use Rattle.model.proofs.Acts.{not-done}
 use Rattle.model.proofs.Steps.{step-obeys}
+use Rattle.model.specs.declared.Phase.the-variants as phase
 
 -- ---- granules
 

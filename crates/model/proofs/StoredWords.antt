@@ -1,39 +1,36 @@
 -- What a write stores, and by which rule it is refused. The idea: the kind decides whether data are scrambled, and the granule how many words there are; a rule refuses a word
 -- that is not zero, or one that would lose a bit.
-use mathlib.Core.Path.{_≡_, refl, sym, ap, subst, _∙_}
-use mathlib.Core.Bool.{Bool, true, false, not, _&&_}
+use mathlib.Core.Path.{_≡_, ap, subst, _∙_}
+use mathlib.Core.Bool.{true, false, not, _&&_}
 use mathlib.Core.List.{List}
 use mathlib.Core.Logic.{_↔_}
-use Prim.Native.Nat.{ℕ, _+_, _*_, _-_, _/_, _≤_, _<_}
-use native.Mathlib.Omega.{arith}
+use Prim.Native.Nat.{ℕ, _-_, _<_}
 use lib.Dec.{eqb, leb}
-use lib.ListN.{length, getD}
-use borrow.Author.Tests.{eqb-true, eqb-false, eq-eqb, ne-eqb, leb-true, leb-false, le-leb, lt-leb, not-false, not-true}
-use Rattle.basics.specs.Choice.{if_then_else_}
+use lib.ListN.{length}
+use borrow.Author.Tests.{eqb-true, eq-eqb, ne-eqb, leb-true, leb-false}
 use Rattle.basics.specs.Digits.{bit}
 use Rattle.basics.specs.Range.{anyBelow}
 use Rattle.basics.proofs.Range.{some-at, at-some}
 use Rattle.words.proofs.Rules.{blank-passed}
 use Rattle.basics.proofs.Choice.{by-cases, true-not-false, not-passed, and-left, and-right, and-both, if-true, if-false}
-use Rattle.words.specs.declared.Rule.{Rule}
 use Rattle.words.specs.declared.Rule.the-variants.{KeepBits, BlankOnly}
 use Rattle.words.specs.Words.{wordsOf}
 use Rattle.words.specs.Programming.{losesBit, refuses, Lowest}
-use Rattle.partitions.specs.declared.Kind.the-variants as kind
 use Rattle.partitions.specs.declared.Partition.{Partition}
 use Rattle.partitions.specs.Fitness.{fit}
-use Rattle.partitions.specs.Map.{Map, rightsOf, partitionAt, limit, inDigest, granuleAt, firstWord, wordCount}
+use Rattle.partitions.specs.Map.{Map, rightsOf, partitionAt, limit, inDigest, wordCount}
 use Rattle.partitions.proofs.Map.{FitPartition, inside}
 use Rattle.partitions.proofs.KindRights.{life-cycle-only, soft-plain, soft-lockable}
 use Rattle.partitions.proofs.Granules.{granule-digest, granule-plain, granule-scrambled, size-words}
 use Rattle.model.specs.Lent.{Machine, Primitives}
 use Rattle.model.specs.Commands.{directRule, scrambled}
 use Rattle.model.specs.Claims.Terms.{storedWords}
-use Rattle.model.specs.Claims.Numbers.{KeyAt, Plain, LowestBurnt, Clears, LowestCleared, eightFrom}
+use Rattle.model.specs.Claims.Numbers.{LowestBurnt, Clears, LowestCleared, eightFrom}
 use Rattle.model.specs.Claims.Burns.{Stores, WriteDenied, past, inLifeCycle, inHardwareDigest}
 use Rattle.model.proofs.KindNames.{Keyed, hardware-kind, lockable-kind, scrambled-keyed, key-is, plain-kind}
 use Rattle.model.proofs.OldRule.{auth-state-old, old-auth-state}
 use Rattle.model.proofs.Writes.{by-rule}
+use Rattle.partitions.specs.declared.Kind.the-variants as kind
 
 -- ---- the words
 

@@ -6,29 +6,25 @@ use mathlib.Core.Logic.{_↔_}
 use Prim.Native.Nat.{ℕ, _+_, _*_, _-_, _/_, _%_, _^_, _≤_, _<_}
 use native.Mathlib.Omega.{arith}
 use lib.ListN.{length, getD}
-use Rattle.basics.specs.Range.{listed}
 use Rattle.basics.proofs.Range.{listed-at}
 use Rattle.words.specs.Words.{numberOf, wordsOf, partAt}
 use Rattle.words.proofs.Words.{length-words, number-block}
 use Rattle.words.proofs.Parts.{part-number-lt, part-at, number-halves}
 use Rattle.partitions.specs.declared.Kind.{Kind}
-use Rattle.partitions.specs.declared.Kind.the-variants as kind
 use Rattle.partitions.specs.declared.Partition.{Partition}
 use Rattle.partitions.specs.Fitness.{fit}
-use Rattle.partitions.specs.Map.{Map, rightsOf, partition, partitionAt, limit, numberOfKind}
+use Rattle.partitions.specs.Map.{Map, partition, limit, numberOfKind}
 use Rattle.partitions.proofs.KindRights.{scrambled-direct}
 use Rattle.partitions.proofs.Map.{only, partition-at, partition-fit, end-within}
 use Rattle.partitions.proofs.Secrets.{secret0, secret2}
 use Rattle.life_cycle.specs.declared.Token.{Token}
-use Rattle.life_cycle.specs.declared.Token.the-variants.{TestUnlock, TestExit, Rma}
-use Rattle.model.specs.declared.Command.{Command}
 use Rattle.model.specs.declared.Command.the-variants.{PowerUp}
-use Rattle.model.specs.Session.{isReady, sensedAt}
-use Rattle.model.specs.Lent.{Lent, Machine, Primitives}
+use Rattle.model.specs.Session.{sensedAt}
+use Rattle.model.specs.Lent.{Machine, Primitives}
 use Rattle.model.specs.Commands.{storedDigest}
 use Rattle.model.specs.PowerUp.{copyWord}
 use Rattle.model.specs.Step.{after}
-use Rattle.model.specs.Claims.Terms.{Right, Cipher, Digested, NoPowerUp}
+use Rattle.model.specs.Claims.Terms.{Cipher, Digested}
 use Rattle.model.specs.Claims.Numbers.{KeyAt, Agrees, eightFrom}
 use Rattle.model.specs.Claims.Sensing.{Since}
 use Rattle.model.specs.Claims.Transitions.{Compared, Stored}
@@ -37,6 +33,7 @@ use Rattle.model.proofs.KindNames.{keyed-scrambled}
 use Rattle.model.proofs.Steps.{after-constants}
 use Rattle.model.proofs.Since.{since-held, since-sensed}
 use Rattle.model.proofs.PowerUpCodes.{secret-copy}
+use Rattle.partitions.specs.declared.Kind.the-variants as kind
 
 module _ (prims : Primitives) (C : Cipher prims) (map : Map) (F : fit map ≡ true) where
   module _ (c₀ : List ℕ) (m : Machine) (s : Since prims map c₀ m) (n first : ℕ) (known : n < length map) (key : KeyAt (partition map n .kind) first) where

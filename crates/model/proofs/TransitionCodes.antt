@@ -12,7 +12,6 @@ use Rattle.basics.proofs.Choice.{true-not-false, if-true, if-false}
 use Rattle.words.specs.Programming.{programAnswer}
 use Rattle.words.proofs.Programming.{refused-not-done, program-elsewhere, answer-same}
 use Rattle.partitions.specs.declared.Kind.{Kind}
-use Rattle.partitions.specs.declared.Kind.the-variants as kind
 use Rattle.partitions.specs.Map.{partition, Map, numberOfKind}
 use Rattle.life_cycle.specs.declared.Token.{Token}
 use Rattle.life_cycle.specs.declared.Token.the-variants.{Nothing, RawUnlock, TestUnlock, TestExit, Rma}
@@ -24,14 +23,15 @@ use Rattle.life_cycle.proofs.Encoding.{counter-length}
 use Rattle.model.specs.declared.Answer.{Answer}
 use Rattle.model.specs.declared.Command.the-variants.{Transition}
 use Rattle.model.specs.Answers.{codeOf}
-use Rattle.model.specs.Session.{sensedLocked, sensedAt}
-use Rattle.model.specs.Lent.{Machine, Primitives, rawUnlockHash}
-use Rattle.model.specs.Commands.{lifeCycleRule, tokenKind, hashesTo, storedToken, counterAt, stateAt}
+use Rattle.model.specs.Session.{sensedAt}
+use Rattle.model.specs.Lent.{Machine, Primitives}
+use Rattle.model.specs.Commands.{lifeCycleRule, counterAt, stateAt}
 use Rattle.model.specs.Step.{answerTo}
 use Rattle.model.specs.Claims.Numbers.{Agrees, eightFrom}
 use Rattle.model.specs.Claims.Refusals.{early}
 use Rattle.model.specs.Claims.Transitions.{Stops, counterRefused, stateRefused, strokeWords, Compared, Asked, strokeOnly, Fair, Unlocked, testUnlock, testExit, rma, Stored}
 use Rattle.model.proofs.TransitionEnds.{struck, move, Ending, unknownTarget, used, counterStops, notInTable, tokenNotLocked, tokenDiffers, stateStops, moved, Room, step-ends}
+use Rattle.partitions.specs.declared.Kind.the-variants as kind
 use Rattle.words.specs.declared.Programmed.the-variants as programmed
 
 module _ (prims : Primitives) (map : Map) (m : Machine) (target given : ℕ) where

@@ -140,7 +140,7 @@ locks-nothing = refl
 
 -- ---- writes: 5 past the limit, 4 with the word, 0
 
-past-limit : answerTo toy map1 (Write 0x380 5) (ready 0 blank) ≡ Denied
+past-limit : Says 0x05 0 (answerTo toy map1 (Write 0x380 5) (ready 0 blank))
 past-limit = toy-claims .burns .exactly (ready 0 blank) ready-right refl 0x380 5 .0 .1 (past (unfold everything in (omega arith)))
   where
     ready-right : Right map1 (ready 0 blank)

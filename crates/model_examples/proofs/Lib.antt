@@ -4,3 +4,4 @@ pub mod Examples
 pub mod ExamplesOfMap2
 pub mod ExamplesOfSensing
 pub mod ExamplesOfClaims
+pub mod ExamplesOfNumbers

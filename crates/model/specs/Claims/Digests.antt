@@ -8,7 +8,6 @@ use lib.ListN.{length}
 use Rattle.words.specs.Words.{wordsOf}
 use Rattle.words.specs.Programming.{programAnswer}
 use Rattle.partitions.specs.Map.{Map, rightsOf, numberAt, partition, partitionAt, limit, inDigest}
-use Rattle.model.specs.declared.Phase.the-variants as phase
 use Rattle.model.specs.declared.Answer.{Answer}
 use Rattle.model.specs.declared.Answer.the-variants.{Done, DigestFailed}
 use Rattle.model.specs.declared.Command.{Command}
@@ -20,6 +19,7 @@ use Rattle.model.specs.Commands.{digestRule, storedDigest}
 use Rattle.model.specs.Step.{after, machineAfter, answerTo}
 use Rattle.model.specs.Claims.Terms.{Right, CellsFit, Says, Put, Digested}
 use Rattle.model.specs.Claims.Numbers.{Hardware, LowestBurnt, digestOf}
+use Rattle.model.specs.declared.Phase.the-variants as phase
 use Rattle.words.specs.declared.Programmed.the-variants as programmed
 
 -- the command puts a number of 64 bits in the digest of partition n, whole: a write of it there, or a digest command that answers it; and it answers 0

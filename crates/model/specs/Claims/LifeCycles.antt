@@ -10,7 +10,6 @@ use Rattle.basics.specs.Choice.{if_then_else_}
 use Rattle.basics.specs.Digits.{bit}
 use Rattle.basics.specs.Range.{listed}
 use Rattle.partitions.specs.Map.{Map}
-use Rattle.life_cycle.specs.declared.Token.the-variants as token
 use Rattle.life_cycle.specs.declared.Entry.{Entry}
 use Rattle.life_cycle.specs.declared.Entry.the-variants.{Allowed, Forbidden}
 use Rattle.life_cycle.specs.Words.{counterWords, stateWords}
@@ -20,6 +19,7 @@ use Rattle.model.specs.Answers.{codeOf}
 use Rattle.model.specs.Lent.{Machine, Primitives}
 use Rattle.model.specs.Step.{answerTo}
 use Rattle.model.specs.Claims.Transitions.{Compared}
+use Rattle.life_cycle.specs.declared.Token.the-variants as token
 
 -- entries: not in the table, allowed with no token, and with each of the four
 abbrev o : Entry

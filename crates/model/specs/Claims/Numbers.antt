@@ -7,9 +7,9 @@ use lib.ListN.{length, getD}
 use Rattle.basics.specs.Digits.{bit}
 use Rattle.words.specs.Words.{numberOf, partAt}
 use Rattle.partitions.specs.declared.Kind.{Kind}
-use Rattle.partitions.specs.declared.Kind.the-variants as kind
 use Rattle.partitions.specs.Map.{Map, partition, partitionAt}
 use Rattle.model.specs.Lent.{Primitives}
+use Rattle.partitions.specs.declared.Kind.the-variants as kind
 
 -- "0 to 23 keys of SECRET0, 1, 2": where the eight words of a secret's key begin
 pub data KeyAt : Kind → ℕ → Type 0 where

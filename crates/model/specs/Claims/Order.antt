@@ -8,13 +8,13 @@ use lib.Bits.{bitOr}
 use lib.Dec.{eqb}
 use lib.ListN.{length, getD}
 use Rattle.partitions.specs.Map.{Map, limit}
-use Rattle.model.specs.declared.Phase.the-variants as phase
 use Rattle.model.specs.declared.Command.{Command}
 use Rattle.model.specs.declared.Command.the-variants.{PowerUp}
 use Rattle.model.specs.Answers.{codeOf, valueOf}
 use Rattle.model.specs.Lent.{Lent, Machine, Primitives}
 use Rattle.model.specs.Step.{machineAfter, answerTo}
 use Rattle.model.specs.Claims.Terms.{Says, notPowerUp}
+use Rattle.model.specs.declared.Phase.the-variants as phase
 
 -- "Cells: exactly 448 words .. Sensed copy: exactly 448 words .. Constants: exactly 132 words", of a map with its limit
 pub record Lengths (map : Map) (l : Lent) : Type 0 where

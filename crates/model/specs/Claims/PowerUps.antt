@@ -1,14 +1,12 @@
 -- Power-up: each answer if and only if its reason, and what it senses.
-use Prim.Native.Nat.{ℕ, _+_, _*_, _-_, _/_, _%_, _≤_, _<_}
+use Prim.Native.Nat.{ℕ, _+_, _*_, _/_, _%_, _≤_, _<_}
 use mathlib.Core.Path.{_≡_}
 use mathlib.Core.Logic.{_↔_}
-use mathlib.Core.List.{List}
 use lib.ListN.{length, getD}
 use Rattle.words.specs.Words.{numberOf, wordsOf, partAt}
-use Rattle.partitions.specs.declared.Kind.the-variants as kind
 use Rattle.partitions.specs.Map.{Map, partition, partitionAt, limit, numberOfKind}
 use Rattle.life_cycle.specs.Words.{counterWords, stateWords}
-use Rattle.model.specs.declared.Answer.the-variants.{Done, DigestFailed, LifeCycleFailed}
+use Rattle.model.specs.declared.Answer.the-variants.{DigestFailed}
 use Rattle.model.specs.declared.Command.the-variants.{PowerUp}
 use Rattle.model.specs.Answers.{codeOf}
 use Rattle.model.specs.Session.{sensedAt}
@@ -16,6 +14,7 @@ use Rattle.model.specs.Lent.{Lent, Machine, Primitives}
 use Rattle.model.specs.Step.{machineAfter, answerTo}
 use Rattle.model.specs.Claims.Terms.{Right, Digested, Says}
 use Rattle.model.specs.Claims.Numbers.{KeyAt, Hardware, Lockable, eightFrom, digestIn, digestOf}
+use Rattle.partitions.specs.declared.Kind.the-variants as kind
 
 module _ (prims : Primitives) (map : Map) where
   -- "Partitions 2 to 5 ..: a nonzero stored digest must equal the one recomputed": partition n fails

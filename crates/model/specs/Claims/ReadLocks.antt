@@ -6,7 +6,6 @@ use mathlib.Core.List.{List, _∷_}
 use Rattle.basics.specs.Choice.{if_then_else_}
 use lib.ListN.{set}
 use Rattle.partitions.specs.Map.{Map, rightsOf, numberAt, partition, partitionAt, inDigest}
-use Rattle.model.specs.declared.Phase.the-variants as phase
 use Rattle.model.specs.declared.Answer.the-variants.{Done, Denied, NotReady}
 use Rattle.model.specs.declared.Command.{Command}
 use Rattle.model.specs.declared.Command.the-variants.{Read, Write, FrontRead, Digest, ReadLock, Transition, PowerUp}
@@ -16,6 +15,7 @@ use Rattle.model.specs.Lent.{Machine, Primitives}
 use Rattle.model.specs.Step.{after, machineAfter, answerTo}
 use Rattle.model.specs.Claims.Terms.{Right, Says, NoPowerUp}
 use Rattle.model.specs.Claims.Numbers.{Lockable}
+use Rattle.model.specs.declared.Phase.the-variants as phase
 
 -- the command reads data of partition n
 abbrev pub readsData : Map → ℕ → Command → Type 0

@@ -4,9 +4,7 @@ use mathlib.Core.Path.{_≡_}
 use mathlib.Core.Bool.{true}
 use mathlib.Core.Logic.{_↔_}
 use Rattle.words.specs.Words.{numberOf, partAt}
-use Rattle.partitions.specs.declared.Kind.the-variants as kind
 use Rattle.partitions.specs.Map.{Map, numberAt, partitionAt, limit}
-use Rattle.model.specs.declared.Phase.the-variants as phase
 use Rattle.model.specs.declared.Answer.the-variants.{Done}
 use Rattle.model.specs.declared.Command.the-variants.{Read, FrontRead}
 use Rattle.model.specs.Answers.{codeOf}
@@ -15,6 +13,8 @@ use Rattle.model.specs.Lent.{Machine, Primitives}
 use Rattle.model.specs.Step.{answerTo}
 use Rattle.model.specs.Claims.Terms.{Right, Says}
 use Rattle.model.specs.Claims.Numbers.{KeyAt, Lockable, Shown}
+use Rattle.partitions.specs.declared.Kind.the-variants as kind
+use Rattle.model.specs.declared.Phase.the-variants as phase
 
 module _ (map : Map) where
   -- why a read answers 5: "the address is 0x380 or more or in LIFE_CYCLE; for data, not digests, also if the partition is read-locked or is secret with a nonzero

@@ -6,7 +6,6 @@ use mathlib.Core.List.{List, _∷_, _++_}
 use mathlib.Core.Logic.{_↔_}
 use Rattle.words.specs.Words.{wordsOf, partAt}
 use Rattle.partitions.specs.declared.Kind.{Kind}
-use Rattle.partitions.specs.declared.Kind.the-variants as kind
 use Rattle.partitions.specs.Map.{Map, partition, numberOfKind}
 use Rattle.life_cycle.specs.declared.Token.{Token}
 use Rattle.life_cycle.specs.declared.Token.the-variants.{TestUnlock, TestExit, Rma}
@@ -18,6 +17,7 @@ use Rattle.model.specs.Step.{after}
 use Rattle.model.specs.Claims.Terms.{Right, NoPowerUp}
 use Rattle.model.specs.Claims.Numbers.{Agrees, eightFrom, digestIn}
 use Rattle.model.specs.Claims.Transitions.{Compared}
+use Rattle.partitions.specs.declared.Kind.the-variants as kind
 
 -- the secret that stores a token, where its key begins among the constants, and at which word of the partition the hash begins
 pub data TokenAt : Token → Kind → ℕ → ℕ → Type 0 where

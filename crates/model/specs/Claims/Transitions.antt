@@ -10,7 +10,6 @@ use Rattle.basics.specs.Choice.{if_then_else_}
 use Rattle.words.specs.Words.{numberOf, partAt}
 use Rattle.words.specs.Programming.{programAnswer}
 use Rattle.partitions.specs.declared.Kind.{Kind}
-use Rattle.partitions.specs.declared.Kind.the-variants as kind
 use Rattle.partitions.specs.Map.{Map, partition, numberOfKind}
 use Rattle.partitions.specs.Map1.{map1}
 use Rattle.partitions.specs.Map2.{map2}
@@ -32,6 +31,7 @@ use Rattle.model.specs.Step.{after, machineAfter, answerTo}
 use Rattle.model.specs.Claims.Terms.{Right, Says, Put, NoPowerUp}
 use Rattle.model.specs.Claims.Numbers.{Agrees, eightFrom}
 use Rattle.model.specs.Claims.Refusals.{early}
+use Rattle.partitions.specs.declared.Kind.the-variants as kind
 use Rattle.words.specs.declared.Programmed.the-variants as programmed
 use Rattle.life_cycle.specs.declared.Entry.the-variants as entry
 
