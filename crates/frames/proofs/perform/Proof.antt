@@ -8,15 +8,15 @@ use Rattle.frames.proofs.Steps.{step-refused, step-done}
 use Rattle.frames.proofs.perform.Statement.{statement}
 use Rattle.frames.proofs.perform.Tie as tie
 
-abbrev start : tie.After-next-at → tie.Start
+abbrev start : tie.After-read-at → tie.Start
 start t = t .before .before .before .before .before
 
 returns : tie.Need-returns
 unfolding stepOf
 returns c =
     let o = start (c .before .before) .args in
-    let n = c .before .before .next-at .result in
-    rw (c .refused .ensures, ← c .before .before .next-at .ensures)
+    let n = c .before .before .read-at .result in
+    rw (c .refused .ensures, ← c .before .before .read-at .ensures)
     (step-refused (mapOf (o .map)) n (o .cells .now) (o .copy .now) (o .constants .now) (o .session) (c .before .match .keys2))
 
 returns-2 : tie.Need-returns-2
@@ -34,7 +34,7 @@ returns-2 c =
     (resultOf (x .execute .last .0) (x .execute .last .1 .0) (s .args .constants .now) (x .execute .result))
     (c .before .code .result)
     (c .value .result)
-    (sym (t .next-at .ensures) ∙ found .1)
+    (sym (t .read-at .ensures) ∙ found .1)
     (x .execute .ensures)
     (c .before .code .ensures)
     (c .value .ensures)
