@@ -1,84 +1,45 @@
 -- No digest fails silently. The idea: a check that passed fails after a write to the partition's data alone; such a write is allowed where the sensed digest is
 -- zero, and it spoils where the stored one is not: then a digest command put it there since the last power-up.
 use mathlib.Core.Path.{_≡_, refl, sym, ap, subst, _∙_}
-use mathlib.Core.Bool.{Bool, true, false, not, _&&_, _||_}
+use mathlib.Core.Bool.{Bool, true, false, _&&_}
 use mathlib.Core.List.{List, [], _∷_, _++_}
 use mathlib.Core.Logic.{_⊎_, inl, inr, ⊎-elim}
-use mathlib.Core.Option.{Option, none, some}
-use Prim.Native.Nat.{ℕ, zero, suc, _+_, _<_}
+use Prim.Native.Nat.{ℕ, zero, _+_}
 use native.Mathlib.Omega.{arith}
 use lib.Dec.{eqb}
-use lib.ListN.{length, getD}
+use lib.ListN.{getD}
 use borrow.Author.Tests.{eqb-true, eqb-false, not-false}
-use Rattle.basics.proofs.Choice.{true-not-false, by-cases, if-both, if-true, if-false, and-both, or-none-left}
+use Rattle.basics.proofs.Choice.{true-not-false, by-cases, if-both, and-both}
 use Rattle.partitions.specs.declared.Partition.{Partition}
-use Rattle.partitions.specs.Map.{Map, rightsOf, numberAt, partition, partitionAt, inDigest, nowhere}
+use Rattle.partitions.specs.Map.{Map, rightsOf, numberAt, partition, partitionAt, inDigest}
 use Rattle.partitions.specs.Fitness.{fit}
 use Rattle.partitions.proofs.KindRights.{hardware-direct}
 use Rattle.partitions.proofs.Map.{partition-at}
-use Rattle.life_cycle.specs.declared.LifeCycle.{LifeCycle}
-use Rattle.life_cycle.specs.declared.LifeCycle.the-variants.{Valid, Invalid}
 use Rattle.model.specs.declared.Answer.{Answer}
-use Rattle.model.specs.declared.Answer.the-variants.{Done, DigestFailed}
+use Rattle.model.specs.declared.Answer.the-variants.{Done}
 use Rattle.model.specs.declared.Command.{Command}
 use Rattle.model.specs.declared.Command.the-variants.{Read, Write, FrontRead, Digest, ReadLock, Transition, PowerUp}
-use Rattle.model.specs.Answers.{codeOf, valueOf}
+use Rattle.model.specs.Answers.{codeOf}
 use Rattle.model.specs.Session.{isReady, sensedAt}
 use Rattle.model.specs.Lent.{Machine, Primitives}
 use Rattle.model.specs.Acts.{Act, perform}
 use Rattle.model.specs.Commands.{storedDigest, writeAct, commandAct, readyAct}
-use Rattle.model.specs.PowerUp.{Waking, digestHolds, firstFailing, verdictOf, lifeCycleIn, lifeCycleWaking, wakingOf, waking, wokenAnswer}
-use Rattle.model.specs.Step.{Step, unchanged, performed, act, powerUp, obey, after, machineAfter, answerTo}
-use Rattle.model.specs.Claims.Terms.{Right, Digested, notPowerUp, NoPowerUp, DigestFits, CellsFit}
+use Rattle.model.specs.PowerUp.{digestHolds}
+use Rattle.model.specs.Step.{Step, unchanged, performed, act, obey, after, machineAfter, answerTo}
+use Rattle.model.specs.Claims.Terms.{Right, Says, Digested, notPowerUp, NoPowerUp, DigestFits, CellsFit}
 use Rattle.model.specs.Claims.Digests.{writes, computes, sparesData, Digestible, SparedData}
 use Rattle.model.specs.Claims.FailedPowerUps.{WrittenAfterDigest}
 use Rattle.model.proofs.Frame.{not-locked}
-use Rattle.model.proofs.Steps.{step-both, step-up, step-right, step-constants, after-right, obeys-act, after-constants}
+use Rattle.model.proofs.Steps.{step-both, step-right, step-constants, after-right, obeys-act, after-constants}
 use Rattle.model.proofs.Locks.{sensed-stored, turned-sensed, turned-ready}
 use Rattle.model.proofs.Digests.{Change, kept, puts, step-changes}
 use Rattle.model.proofs.Refusals.{power-ups-refuse}
 use Rattle.model.proofs.NotReady.{no-power-up}
 use Rattle.model.proofs.Since.{first-since, up-held}
 use Rattle.model.proofs.WordSizes.{step-small}
+use Rattle.model.proofs.KindNames.{kind-hardware}
+use Rattle.model.proofs.PowerUpCodes.{none-fails, fails-failed, power-up-sixes}
 use Rattle.model.proofs.DigestChecks.{zero-holds, step-holds, digest-checks}
-
-none-not-some : (n : ℕ) → some n ≡ none → ⊥
-none-not-some n e = true-not-false refl (ap (λ (o : Option ℕ). is-some o) e)
-  where
-    is-some : Option ℕ → Bool
-    is-some none = false
-    is-some (some i) = true
-
-some-same : {i n : ℕ} → some i ≡ some n → i ≡ n
-some-same e = cc
-
--- ---- the first partition that fails
-
-module _ (prims : Primitives) (k c : List ℕ) where
-  nowhere-holds : digestHolds prims k c nowhere ≡ true
-  unfolding digestHolds nowhere rightsOf
-  nowhere-holds = refl
-
-  pub none-fails : (i : ℕ) (ps : Map) → firstFailing prims k c i ps ≡ none → (j : ℕ) → digestHolds prims k c (getD ps j nowhere) ≡ true
-  unfolding firstFailing
-  none-fails i [] e j = nowhere-holds
-  none-fails i (p ∷ ps) e zero = by-cases (digestHolds prims k c p) (λ t. t) (λ t. absurd (none-not-some _ (sym (if-false _ _ t) ∙ e)))
-  none-fails i (p ∷ ps) e (suc j) =
-      by-cases (digestHolds prims k c p) (λ t. none-fails (suc i) ps (sym (if-true _ _ t) ∙ e) j) (λ t. absurd (none-not-some _ (sym (if-false _ _ t) ∙ e)))
-
-  record Failing (i n : ℕ) (ps : Map) : Type 0 where
-    index : ℕ
-    is : n ≡ i + index
-    known : index < length ps
-    fails : digestHolds prims k c (getD ps index nowhere) ≡ false
-
-  some-fails : (i n : ℕ) (ps : Map) → firstFailing prims k c i ps ≡ some n → Failing i n ps
-  unfolding firstFailing
-  some-fails i n [] e = absurd (none-not-some n (sym e))
-  some-fails i n (p ∷ ps) e =
-      by-cases (digestHolds prims k c p)
-      (λ t. (let f = some-fails (suc i) n ps (sym (if-true _ _ t) ∙ e) in record { index = suc (f .index); is = omega (arith, f .is); known = omega (arith, f .known); fails = f .fails }))
-      (λ t. (let q = some-same (sym (if-false _ _ t) ∙ e) in record { index = 0; is = omega (arith, q); known = omega arith; fails = t }))
 
 -- ---- a write that answers 0
 
@@ -358,48 +319,30 @@ module _ (prims : Primitives) (map : Map) (F : fit map ≡ true) (n : ℕ) (D : 
 
 -- ---- the theorem
 
-failed-verdict : (v : Option ℕ) (life : LifeCycle) (n : ℕ) → wokenAnswer (wakingOf v life) ≡ DigestFailed n → v ≡ some n
-unfolding wokenAnswer wakingOf lifeCycleWaking
-failed-verdict (some number) life n e = ap some (ap valueOf e)
-failed-verdict none Invalid n e = absurd (omega (arith, ap codeOf e))
-failed-verdict none (Valid state count) n e =
-    absurd (if-both (λ (w : Waking). wokenAnswer w ≡ DigestFailed n → ⊥) (eqb state 20) _ _ (λ t q. omega (arith, ap codeOf q)) (λ t q. omega (arith, ap codeOf q)) e)
-
 module _ (prims : Primitives) (map : Map) (F : fit map ≡ true) where
-  hard-of : (k c : List ℕ) (p : Partition) → digestHolds prims k c p ≡ false → rightsOf (p .kind) .hardware ≡ true
-  unfolding digestHolds
-  hard-of k c p e = not-false _ (or-none-left (not (rightsOf (p .kind) .hardware)) _ (or-none-left (not (rightsOf (p .kind) .hardware) || eqb (storedDigest p c) 0) _ e))
-
-  up-failing : (m : Machine) → Right map m → (n : ℕ) → answerTo prims map PowerUp m ≡ DigestFailed n → Failing prims (m .lent .constants) (m .lent .cells) 0 n map
-  unfolding powerUp waking verdictOf
-  up-failing m r n e = some-fails prims (m .lent .constants) (m .lent .cells) 0 n map (failed-verdict _ (lifeCycleIn map (m .lent)) n (rw (step-up prims map m r, answerTo) at e))
-
   pub sixes : DigestFits prims → (m : Machine) → Right map m → CellsFit m → codeOf (answerTo prims map PowerUp m) ≡ 0x00 → (l : List Command) (n : ℕ)
-      → answerTo prims map PowerUp (after prims map (PowerUp ∷ l) m) ≡ DigestFailed n → WrittenAfterDigest prims map (machineAfter prims map PowerUp m) l n
+      → Says 0x06 n (answerTo prims map PowerUp (after prims map (PowerUp ∷ l) m)) → WrittenAfterDigest prims map (machineAfter prims map PowerUp m) l n
   unfolding after partition
   sixes G m r w z l n e =
       let m₀ = machineAfter prims map PowerUp m in
       let r₀ = step-right prims map PowerUp m r in
       let m₁ = after prims map l m₀ in
-      let f = up-failing m₁ (after-right prims map l m₀ r₀) n e in
-      let is : f .index ≡ n = omega (arith, f .is) in
-      let bad : digestHolds prims (m₁ .lent .constants) (m₁ .lent .cells) (partition map n) ≡ false = rw is at (f .fails) in
-      let hard = hard-of (m₁ .lent .constants) (m₁ .lent .cells) (partition map n) bad in
-      let D : Digested map n = record { known = rw is at (f .known); direct = hardware-direct _ hard } in
-      let s = first-since prims map F m r z in
+      let f = power-up-sixes prims map m₁ (after-right prims map l m₀ r₀) n .0 e .fails in
+      let hard = kind-hardware (f .hardware) in
+      let D : Digested map n = record { known = f .known; direct = hardware-direct _ hard } in
       let first : digestHolds prims (m .lent .constants) (m .lent .cells) (partition map n) ≡ true =
-      none-fails prims (m .lent .constants) (m .lent .cells) 0 map (rw (step-constants prims map PowerUp m) at (s .checked)) n in
-      both prims map F n D hard G l .0 m₀ r₀ (step-small prims map PowerUp m r (record { small = w }) .small) (power-good prims map F n D hard G m r first) bad
+      none-fails prims (m .lent .constants) (m .lent .cells) 0 map (rw (step-constants prims map PowerUp m) at (first-since prims map F m r z .checked)) n in
+      both prims map F n D hard G l .0 m₀ r₀ (step-small prims map PowerUp m r (record { small = w }) .small) (power-good prims map F n D hard G m r first)
+      (fails-failed prims map (m₁ .lent) n f)
 
   -- from a digest command on, while its data are not written
   pub digest-passes : DigestFits prims → (m : Machine) → Right map m → CellsFit m → (a : ℕ) → Digestible prims map m a → (l : List Command)
       → SparedData prims map (numberAt map a) l (machineAfter prims map (Digest a) m)
-      → answerTo prims map PowerUp (after prims map l (machineAfter prims map (Digest a) m)) ≡ DigestFailed (numberAt map a) → ⊥
+      → Says 0x06 (numberAt map a) (answerTo prims map PowerUp (after prims map l (machineAfter prims map (Digest a) m))) → ⊥
   unfolding partition partitionAt
   digest-passes G m r w a d l s e =
       let m₀ = machineAfter prims map (Digest a) m in
       let m₁ = after prims map l m₀ in
-      let f = up-failing m₁ (after-right prims map l m₀ (step-right prims map (Digest a) m r)) (numberAt map a) e in
-      let is : f .index ≡ numberAt map a = omega (arith, f .is) in
+      let f = power-up-sixes prims map m₁ (after-right prims map l m₀ (step-right prims map (Digest a) m r)) (numberAt map a) .0 e .fails in
       let k : m₁ .lent .constants ≡ m .lent .constants = after-constants prims map l m₀ ∙ step-constants prims map (Digest a) m in
-      true-not-false (digest-checks prims map m a F r d G w l s) (rw (is, k) at (f .fails))
+      true-not-false (digest-checks prims map m a F r d G w l s) (rw k at (fails-failed prims map (m₁ .lent) (numberAt map a) f))

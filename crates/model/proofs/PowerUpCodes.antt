@@ -24,9 +24,8 @@ use Rattle.partitions.proofs.Granules.{granule-scrambled, size-words}
 use Rattle.life_cycle.specs.declared.LifeCycle.{LifeCycle}
 use Rattle.life_cycle.specs.declared.LifeCycle.the-variants.{Valid, Invalid}
 use Rattle.life_cycle.proofs.Decoding.{decoded-says, decoded-valid}
-use Rattle.model.specs.declared.Answer.the-variants.{DigestFailed}
 use Rattle.model.specs.declared.Command.the-variants.{PowerUp}
-use Rattle.model.specs.Answers.{codeOf, valueOf}
+use Rattle.model.specs.Answers.{codeOf}
 use Rattle.model.specs.Session.{sensedAt}
 use Rattle.model.specs.Lent.{Lent, Machine, Primitives, digestStart, digestFinal}
 use Rattle.model.specs.Commands.{granule, storedDigest, dataWords, computedDigest, unscrambled, counterAt, stateAt}
@@ -51,6 +50,17 @@ some-same e = cc
 module _ (prims : Primitives) (k c : List ℕ) where
   abbrev holds : Partition → Bool
   holds = digestHolds prims k c
+
+  nowhere-holds : digestHolds prims k c nowhere ≡ true
+  unfolding digestHolds nowhere rightsOf
+  nowhere-holds = refl
+
+  pub none-fails : (i : ℕ) (ps : Map) → firstFailing prims k c i ps ≡ none → (j : ℕ) → digestHolds prims k c (getD ps j nowhere) ≡ true
+  unfolding firstFailing
+  none-fails i [] e j = nowhere-holds
+  none-fails i (p ∷ ps) e zero = by-cases (digestHolds prims k c p) (λ t. t) (λ t. absurd (some-not-none (sym (if-false _ _ t) ∙ e)))
+  none-fails i (p ∷ ps) e (suc j) =
+      by-cases (digestHolds prims k c p) (λ t. none-fails (suc i) ps (sym (if-true _ _ t) ∙ e) j) (λ t. absurd (some-not-none (sym (if-false _ _ t) ∙ e)))
 
   -- the partitions from i on, in the list ps, hold up to n, which fails
   record First (i n : ℕ) (ps : Map) : Type 0 where
@@ -105,7 +115,7 @@ module _ (prims : Primitives) (map : Map) (l : Lent) where
         differs = eqb-false _ _ (or-none-right (soft || zero) same e);
       }
 
-  fails-failed : (n : ℕ) → Fails prims map l n → digestHolds prims (l .constants) (l .cells) (partition map n) ≡ false
+  pub fails-failed : (n : ℕ) → Fails prims map l n → digestHolds prims (l .constants) (l .cells) (partition map n) ≡ false
   unfolding digestHolds storedDigest computedDigest digestStart digestFinal dataWords
   fails-failed n f = rw (kind-hardware (f .hardware), ne-eqb _ 0 (f .nonzero), ne-eqb _ _ (f .differs)) refl
 
@@ -150,18 +160,18 @@ module _ (prims : Primitives) (map : Map) (m : Machine) (r : Right map m) where
 
   -- ---- the answers
 
-  six-verdict : (v : Option ℕ) (life : LifeCycle) (n : ℕ) → wokenAnswer (wakingOf v life) ≡ DigestFailed n → v ≡ some n
+  six-verdict : (v : Option ℕ) (life : LifeCycle) (n : ℕ) → Says 0x06 n (wokenAnswer (wakingOf v life)) → v ≡ some n
   unfolding wokenAnswer wakingOf lifeCycleWaking
-  six-verdict (some number) life n = λ e. ap some (ap valueOf e)
-  six-verdict none Invalid n = λ e. absurd (omega (arith, ap codeOf e))
+  six-verdict (some number) life n = λ e. ap some (e .1)
+  six-verdict none Invalid n = λ e. absurd (omega (arith, e .0))
   six-verdict none (Valid state count) n =
-      if-both (λ w. wokenAnswer w ≡ DigestFailed n → none ≡ some n) (eqb state 20) _ _ (λ t e. absurd (omega (arith, ap codeOf e))) (λ t e. absurd (omega (arith, ap codeOf e)))
+      if-both (λ w. Says 0x06 n (wokenAnswer w) → none ≡ some n) (eqb state 20) _ _ (λ t e. absurd (omega (arith, e .0))) (λ t e. absurd (omega (arith, e .0)))
 
-  pub power-up-sixes : (n : ℕ) → (answerTo prims map PowerUp m ≡ DigestFailed n) ↔ FirstFails prims map (m .lent) n
+  pub power-up-sixes : (n : ℕ) → Says 0x06 n (answerTo prims map PowerUp m) ↔ FirstFails prims map (m .lent) n
   unfolding powerUp waking wakingOf wokenAnswer
   power-up-sixes n = rw (step-up prims map m r, answerTo) (
     (λ e. verdict-fails prims map (m .lent) n (six-verdict (verdictOf prims map (m .lent)) (lifeCycleIn map (m .lent)) n e)),
-    λ f. rw (fails-verdict prims map (m .lent) n f) refl,
+    λ f. rw (fails-verdict prims map (m .lent) n f) (refl, refl),
   )
 
   module _ (h : (n : ℕ) → Fails prims map (m .lent) n → ⊥) where

@@ -111,7 +111,7 @@ summing-claims =
 written-after : WrittenAfterDigest summing map1 (machineAfter summing map1 PowerUp (off blank)) (Digest 0x200 ∷ Write 0x200 5 ∷ []) 2
 written-after =
     summing-claims .failedPowerUps .sixes (off blank) (right blank refl) blank-fits (unfold everything summing in refl) (Digest 0x200 ∷ Write 0x200 5 ∷ []) 2
-    (unfold everything summing in refl)
+    (unfold everything summing in (refl, refl))
 
 -- SCRAP after one stroke
 scrapped : Scrapped toy map1 (machineAfter toy map1 PowerUp (off blank)) (Transition 20 0 0 ∷ [])

@@ -89,7 +89,7 @@ wrong-digest : List ℕ
 wrong-digest = set blank 292 5
 
 six : FirstFails toy map1 (off wrong-digest .lent) 2
-six = toy-claims .powerUps .sixes (off wrong-digest) (right wrong-digest (unfold wrong-digest in refl)) 2 .0 (unfold everything wrong-digest in refl)
+six = toy-claims .powerUps .sixes (off wrong-digest) (right wrong-digest (unfold wrong-digest in refl)) 2 .0 (unfold everything wrong-digest in (refl, refl))
 
 -- the blank chip encodes RAW and no stroke; it answers 0, and a word of the copy is the cell
 encodes-raw : Encodes toy map1 (off blank .lent) 0 0

@@ -9,7 +9,7 @@ use Rattle.words.specs.Words.{wordsOf}
 use Rattle.words.specs.Programming.{programAnswer}
 use Rattle.partitions.specs.Map.{Map, rightsOf, numberAt, partition, partitionAt, limit, inDigest}
 use Rattle.model.specs.declared.Answer.{Answer}
-use Rattle.model.specs.declared.Answer.the-variants.{Done, DigestFailed}
+use Rattle.model.specs.declared.Answer.the-variants.{Done}
 use Rattle.model.specs.declared.Command.{Command}
 use Rattle.model.specs.declared.Command.the-variants.{Read, Write, FrontRead, Digest, ReadLock, Transition, PowerUp}
 use Rattle.model.specs.Answers.{codeOf}
@@ -90,7 +90,7 @@ module _ (prims : Primitives) (map : Map) where
     -- its data answers 0
     pub checks : (m : Machine) → Right map m → CellsFit m → (a : ℕ) → codeOf (answerTo prims map (Digest a) m) ≡ 0x00
         → (l : List Command) → SparedData (numberAt map a) l (machineAfter prims map (Digest a) m)
-        → answerTo prims map PowerUp (after prims map l (machineAfter prims map (Digest a) m)) ≡ DigestFailed (numberAt map a) → ⊥
+        → Says 0x06 (numberAt map a) (answerTo prims map PowerUp (after prims map l (machineAfter prims map (Digest a) m))) → ⊥
     -- a digest is never written in part: after any list it is whole the one that was there before, or the one that a single command of the list put there
     pub whole : (m : Machine) → Right map m → (n : ℕ) → Digested map n → (l : List Command)
         → Source m l n (storedDigest (partition map n) (after prims map l m .lent .cells))

@@ -6,7 +6,6 @@ use lib.ListN.{length, getD}
 use Rattle.words.specs.Words.{numberOf, wordsOf, partAt}
 use Rattle.partitions.specs.Map.{Map, partition, partitionAt, limit, numberOfKind}
 use Rattle.life_cycle.specs.Words.{counterWords, stateWords}
-use Rattle.model.specs.declared.Answer.the-variants.{DigestFailed}
 use Rattle.model.specs.declared.Command.the-variants.{PowerUp}
 use Rattle.model.specs.Answers.{codeOf}
 use Rattle.model.specs.Session.{sensedAt}
@@ -48,7 +47,7 @@ module _ (prims : Primitives) (map : Map) where
 
   pub record PowerUps : Type 0 where
     -- "the first that differs gives 6", "value: partition"
-    pub sixes : (m : Machine) → Right map m → (n : ℕ) → (answerTo prims map PowerUp m ≡ DigestFailed n) ↔ FirstFails (m .lent) n
+    pub sixes : (m : Machine) → Right map m → (n : ℕ) → Says 0x06 n (answerTo prims map PowerUp m) ↔ FirstFails (m .lent) n
     -- "Then state and count are decoded; invalid or SCRAP gives 7 .. value for SCRAP as below, for invalid 0xFFFF", "value 256 times count plus state": where no digest
     -- check fails, what the life cycle words encode decides
     pub invalid : (m : Machine) → Right map m → ((n : ℕ) → Fails (m .lent) n → ⊥)
