@@ -11,7 +11,7 @@ use Rattle.model.specs.Lent.{digestStart, digestFinal}
 use Rattle.model.specs.Cases.{table, tableElsewhere, Hold, blankDigest}
 use Rattle.model.specs.CaseTables.{constants}
 use Rattle.model.specs.CasesOfMap2.{tableOfMap2, HoldOnMap2, blankHwCfg1Digest}
-use Rattle.model.proofs.Cases.{cases}
+use Rattle.model_examples.proofs.Cases.{cases}
 use Rattle.model_examples.proofs.CasesElsewhere.{cases-elsewhere}
 use Rattle.model_examples.proofs.CasesOfMap2.{cases-of-map2}
 use Rattle.chip.specs.Chip.{primitives}

@@ -47,7 +47,4 @@ pub mod FailedDigests
 pub mod FailedLifeCycles
 pub mod Everything
 pub mod Theorems
-pub mod CaseTables
-pub mod Cases
 pub mod ToyChip
-pub mod Runs

@@ -6,7 +6,7 @@ use Rattle.partitions.specs.Map1.{map1}
 use Rattle.model.specs.Lent.{Primitives}
 use Rattle.model.specs.CaseTables.{Case, bothSides, secondBurn, whichWord}
 use Rattle.model.specs.Cases.{tableElsewhere, Hold}
-use Rattle.model.proofs.CaseTables.{_&_, Part, both, held}
+use Rattle.model_examples.proofs.CaseTables.{_&_, Part, both, held}
 use Rattle.model.proofs.Everything.{everything}
 
 module _ (prims : Primitives) (keys : ℕ → ℕ) where

@@ -10,7 +10,7 @@ use Rattle.model.specs.Lent.{Primitives}
 use Rattle.model.specs.Step.{obey}
 use Rattle.model.specs.CaseTables.{Case, asIs, lowestBitChanged, off, bothSides, secondBurn, whichWord}
 use Rattle.model.specs.CasesOfMap2.{paperOnMap2, authStateRows, readLockRows, frontReadRows, edgeRows, hwCfg1Digest, tableOfMap2, HoldOnMap2, blankHwCfg1Digest}
-use Rattle.model.proofs.CaseTables.{_&_, same, right-same, wrong-differs, Part, both, held, woken, unlocking, unlocked}
+use Rattle.model_examples.proofs.CaseTables.{_&_, same, right-same, wrong-differs, Part, both, held, woken, unlocking, unlocked}
 use Rattle.model.proofs.Everything.{everything}
 
 module _ (prims : Primitives) (keys : ℕ → ℕ) where

@@ -36,7 +36,7 @@ use Rattle.model.specs.Claims.Digests.{Puts, writes, Source, put}
 use Rattle.model.specs.Claims.All.{Claims}
 use Rattle.model.proofs.Everything.{everything}
 use Rattle.model.proofs.ToyChip.{toyWith, toy, off, ready, tested}
-use Rattle.model.proofs.Cases.{cases}
+use Rattle.model_examples.proofs.Cases.{cases}
 use Rattle.model.proofs.Theorems.{claims}
 
 pub toy-cipher : Cipher toy

@@ -1,3 +1,6 @@
+pub mod CaseTables
+pub mod Cases
+pub mod Runs
 pub mod CasesElsewhere
 pub mod CasesOfMap2
 pub mod Examples

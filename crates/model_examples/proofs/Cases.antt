@@ -5,13 +5,13 @@ use mathlib.Core.List.{List, [], _∷_, _++_}
 use Prim.Native.Nat.{ℕ, _+_, _^_, _<_}
 use Rattle.words.proofs.Words.{number-block}
 use Rattle.partitions.specs.Map1.{map1}
 use Rattle.model.specs.declared.Command.the-variants.{Read, Write, FrontRead, Digest, ReadLock, Transition, PowerUp}
 use Rattle.model.specs.Lent.{Primitives}
 use Rattle.model.specs.Step.{obey}
 use Rattle.model.specs.CaseTables.{Case, asIs, lowestBitChanged, off, bothSides, secondBurn, whichWord}
 use Rattle.model.specs.Cases.{paper, hardware, lockedFirst, table, Hold, blankDigest}
-use Rattle.model.proofs.CaseTables.{_&_, same, right-same, wrong-differs, Part, both, held, woken, unlocking, unlocked}
+use Rattle.model_examples.proofs.CaseTables.{_&_, same, right-same, wrong-differs, Part, both, held, woken, unlocking, unlocked}
 use Rattle.model.proofs.Everything.{everything}
 
 module _ (prims : Primitives) (keys : ℕ → ℕ) where
   infixl 2 _and_
