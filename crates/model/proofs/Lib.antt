@@ -30,9 +30,9 @@ pub mod Chips
 pub mod TransitionEnds
 pub mod TransitionCells
 pub mod TransitionCodes
+pub mod Comparisons
 pub mod TransitionLife
 pub mod TransitionLeaves
-pub mod TokenPlaces
 pub mod Courses
 pub mod FrontReads
 pub mod PowerUps

@@ -1,13 +1,14 @@
 -- Partitions and granules by address, in numbers. The idea: in a fit map partitions adjoin, so that the range holds the address of one alone; a granule of 4 or 8 bytes begins at a
 -- multiple of its size.
-use mathlib.Core.Path.{_≡_}
-use mathlib.Core.Bool.{true}
+use mathlib.Core.Path.{_≡_, refl}
+use mathlib.Core.Bool.{true, false}
 use mathlib.Core.Logic.{_↔_}
 use Prim.Native.Nat.{ℕ, _+_, _*_, _/_, _≤_, _<_}
 use native.Mathlib.Omega.{arith}
 use borrow.Author.Tests.{le-leb, lt-leb}
 use Rattle.partitions.specs.Fitness.{fit}
-use Rattle.partitions.specs.Map.{Map, numberAt, partitionAt, limit, inDigest, firstWord, wordCount}
+use Rattle.partitions.specs.declared.Kind.the-variants as kind
+use Rattle.partitions.specs.Map.{Map, rightsOf, numberAt, partitionAt, limit, inDigest, firstWord, wordCount}
 use Rattle.partitions.proofs.Map.{inside, only}
 use Rattle.partitions.proofs.Granules.{by-granule, granule-digest, granule-plain, granule-scrambled, size-words}
 use Rattle.model.specs.Claims.Numbers.{KeyAt, Plain}
@@ -33,6 +34,12 @@ module _ (map : Map) (F : fit map ≡ true) where
   unfolding inDigest
   plain-count a l d p = size-words (partitionAt map a) a 4 (granule-plain (inside map F l .fits) (plain-not-scrambled p) a (lt-leb _ _ d)) .1
 
+  life-cycle-count : (a : ℕ) → a < limit map → partitionAt map a .kind ≡ kind.LifeCycle → a < partitionAt map a .digest → wordCount (partitionAt map a) a ≡ 2
+  unfolding inDigest rightsOf
+  life-cycle-count a l e d =
+      let plain : rightsOf (partitionAt map a .kind) .scrambled ≡ false = rw e refl in
+      size-words (partitionAt map a) a 4 (granule-plain (inside map F l .fits) plain a (lt-leb _ _ d)) .1
+
   granules : (a : ℕ) → a < limit map
       → let first = firstWord (partitionAt map a) a in
       let count = wordCount (partitionAt map a) a in
@@ -43,4 +50,4 @@ module _ (map : Map) (F : fit map ≡ true) where
       (λ e. (let w = size-words (partitionAt map a) a 8 e in rw (w .0, w .1) (omega arith, omega arith, omega arith)))
 
   pub places : Places map
-  places = record { ranges = ranges; digests = digest-count; secrets = secret-count; plains = plain-count; granules = granules }
+  places = record { ranges = ranges; digests = digest-count; secrets = secret-count; plains = plain-count; lifeCycle = life-cycle-count; granules = granules }

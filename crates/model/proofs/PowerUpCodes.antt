@@ -1,5 +1,8 @@
 -- When a power-up gives each answer, and what it senses. The idea: the first partition that fails is found by the list of partitions; where none fails, the life cycle words decode to
 -- what they encode; and a word of the copy is what its kind and its side of the digest make of it.
+use Rattle.model.proofs.NotReady.{no-power-up}
+use Rattle.model.specs.declared.Session.{Session}
+use Rattle.model.specs.declared.Command.{Command}
 use mathlib.Core.Path.{_≡_, refl, sym, ap, subst, _∙_}
 use mathlib.Core.Bool.{Bool, true, false, not, _&&_, _||_}
 use mathlib.Core.List.{List, [], _∷_}
@@ -24,18 +27,19 @@ use Rattle.partitions.proofs.Granules.{granule-scrambled, size-words}
 use Rattle.life_cycle.specs.declared.LifeCycle.{LifeCycle}
 use Rattle.life_cycle.specs.declared.LifeCycle.the-variants.{Valid, Invalid}
 use Rattle.life_cycle.proofs.Decoding.{decoded-says, decoded-valid}
+use Rattle.model.specs.declared.Phase.the-variants as phase
 use Rattle.model.specs.declared.Command.the-variants.{PowerUp}
 use Rattle.model.specs.Answers.{codeOf}
 use Rattle.model.specs.Session.{sensedAt}
 use Rattle.model.specs.Lent.{Lent, Machine, Primitives, digestStart, digestFinal}
 use Rattle.model.specs.Commands.{granule, storedDigest, dataWords, computedDigest, unscrambled, counterAt, stateAt}
-use Rattle.model.specs.PowerUp.{digestHolds, firstFailing, verdictOf, lifeCycleIn, copyWord, wakingOf, lifeCycleWaking, waking, wokenAnswer}
-use Rattle.model.specs.Step.{powerUp, machineAfter, answerTo}
-use Rattle.model.specs.Claims.Terms.{Right, Digested, Says}
+use Rattle.model.specs.PowerUp.{digestHolds, firstFailing, verdictOf, lifeCycleIn, copyWord, wakingOf, lifeCycleWaking, waking, wokenAnswer, wokenSession, Waking, wakes}
+use Rattle.model.specs.Step.{powerUp, machineAfter, answerTo, step, unchanged, act, performed, Step}
+use Rattle.model.specs.Claims.Terms.{Right, Digested, Says, notPowerUp}
 use Rattle.model.specs.Claims.Numbers.{KeyAt, eightFrom, digestIn, digestOf}
 use Rattle.model.specs.Claims.PowerUps.{Fails, FirstFails, Encodes, Latched}
 use Rattle.model.proofs.KindNames.{Keyed, keyed-scrambled, hardware-kind, kind-hardware, lockable-kind, scrambled-keyed, key-is}
-use Rattle.model.proofs.Steps.{step-up, step-constants}
+use Rattle.model.proofs.Steps.{step-up, step-constants, step-both, obeys-act}
 use Rattle.model.proofs.Since.{first-since, since-sensed}
 use Rattle.partitions.specs.declared.Kind.the-variants as kind
 
@@ -174,6 +178,23 @@ module _ (prims : Primitives) (map : Map) (m : Machine) (r : Right map m) where
     λ f. rw (fails-verdict prims map (m .lent) n f) (refl, refl),
   )
 
+  -- ---- the verdict
+
+  one-same : {a b : Option ℕ} → a ∷ [] ≡ b ∷ [] → a ≡ b
+  one-same e = cc
+
+  pub power-up-verdicts : let seen = step prims map PowerUp m .verdicts in
+      ((n : ℕ) → (seen ≡ some n ∷ []) ↔ FirstFails prims map (m .lent) n) × ((seen ≡ none ∷ []) ↔ ((n : ℕ) → Fails prims map (m .lent) n → ⊥))
+  unfolding powerUp
+  power-up-verdicts = rw (step-up prims map m r) (
+    (λ n. ((λ e. verdict-fails prims map (m .lent) n (one-same e)), λ f. ap (λ (v : Option ℕ). v ∷ []) (fails-verdict prims map (m .lent) n f))),
+    ((λ e n f. none-fails-not (one-same e) n f), λ h. ap (λ (v : Option ℕ). v ∷ []) (none-verdict prims map (m .lent) h)),
+  )
+    where
+      none-fails-not : verdictOf prims map (m .lent) ≡ none → (n : ℕ) → Fails prims map (m .lent) n → ⊥
+      none-fails-not e n f =
+          true-not-false (none-fails prims (m .lent .constants) (m .lent .cells) 0 map (unfold verdictOf in e) n) (unfold partition in (fails-failed prims map (m .lent) n f))
+
   module _ (h : (n : ℕ) → Fails prims map (m .lent) n → ⊥) where
     -- where no check fails, what is decoded decides
     life-answer : answerTo prims map PowerUp m ≡ wokenAnswer (lifeCycleWaking (lifeCycleIn map (m .lent)))
@@ -184,16 +205,31 @@ module _ (prims : Primitives) (map : Map) (m : Machine) (r : Right map m) where
     unfolding lifeCycleWaking wokenAnswer if_then_else_
     power-up-scrap count e = rw (life-answer, decodes 20 count e) (refl, refl)
 
-    pub power-up-done : (state count : ℕ) → (state ≡ 20 → ⊥) → Encodes prims map (m .lent) state count → Says 0x00 (256 * count + state) (answerTo prims map PowerUp m)
+    done-says : (state count : ℕ) → (state ≡ 20 → ⊥) → Encodes prims map (m .lent) state count → Says 0x00 (256 * count + state) (answerTo prims map PowerUp m)
     unfolding lifeCycleWaking wokenAnswer if_then_else_
-    power-up-done state count n e = rw (life-answer, decodes state count e, ne-eqb state 20 n) (refl, refl)
+    done-says state count n e = rw (life-answer, decodes state count e, ne-eqb state 20 n) (refl, refl)
+
+    -- the record then
+    life-session : machineAfter prims map PowerUp m .session ≡ wokenSession map (lifeCycleWaking (lifeCycleIn map (m .lent))) (m .lent)
+    unfolding powerUp waking wakingOf
+    life-session = rw (step-up prims map m r, machineAfter, none-verdict prims map (m .lent) h) refl
+
+    pub power-up-done : (state count : ℕ) → (state ≡ 20 → ⊥) → Encodes prims map (m .lent) state count
+        → let s = machineAfter prims map PowerUp m .session in
+        Says 0x00 (256 * count + state) (answerTo prims map PowerUp m) × (s .phase ≡ phase.Ready) × (s .state ≡ state) × (s .count ≡ count)
+    unfolding lifeCycleWaking wokenSession if_then_else_
+    power-up-done state count n e =
+        let same = ap (λ (l : LifeCycle). wokenSession map (lifeCycleWaking l) (m .lent)) (decodes state count e) in
+        let woke : machineAfter prims map PowerUp m .session ≡ wokenSession map (wakes state count) (m .lent)
+        = life-session ∙ same ∙ ap (λ (w : Waking). wokenSession map w (m .lent)) (if-false _ _ (ne-eqb state 20 n)) in
+        (done-says state count n e, ap (λ (s : Session). s .phase) woke, ap (λ (s : Session). s .state) woke, ap (λ (s : Session). s .count) woke)
 
     -- no encoding gives 0xFFFF
     not-invalid : (state count : ℕ) → Encodes prims map (m .lent) state count → Says 0x07 0xFFFF (answerTo prims map PowerUp m) → ⊥
     not-invalid state count e q =
         by-cases (eqb state 20)
         (λ t. (let s = power-up-scrap count (rw (eqb-true state 20 t) at e) in omega (arith, s .1, q .1, e .countKnown)))
-        (λ t. (let s = power-up-done state count (eqb-false state 20 t) e in omega (arith, s .0, q .0)))
+        (λ t. (let s = done-says state count (eqb-false state 20 t) e in omega (arith, s .0, q .0)))
 
     invalid-says : (life : LifeCycle) → ((state count : ℕ) → life ≡ Valid state count → ⊥) → Says 0x07 0xFFFF (wokenAnswer (lifeCycleWaking life))
     unfolding lifeCycleWaking wokenAnswer
@@ -280,3 +316,7 @@ module _ (prims : Primitives) (map : Map) (F : fit map ≡ true) where
       = ap (λ (w : List ℕ). getD w j 0) (s .copy) ∙ listed-at (copyWord prims map (machineAfter prims map PowerUp m .lent .constants) (m .lent .cells)) 0 (limit map / 2) j low
       ∙ ap (λ (w : List ℕ). copyWord prims map w (m .lent .cells) j) k in
       subst (Latched prims map (m .lent) j) (sym e) (latched (m .lent) j low)
+
+  pub no-verdict : (m : Machine) (x : Command) → notPowerUp x → step prims map x m .verdicts ≡ []
+  unfolding unchanged act performed
+  no-verdict m x u = step-both prims map (λ (s : Step). s .verdicts ≡ []) x m (λ answer j. refl) (rw (obeys-act prims map x m (no-power-up prims map x u)) refl)

@@ -87,14 +87,14 @@ module _ (prims : Primitives) (map : Map) (F : fit map ≡ true) (m : Machine) (
 
   not-denied : Passed → ((a < p .digest) → rightsOf (p .kind) .lockable ≡ true → readLocked (m .session) (numberAt map a) ≡ true → ⊥)
       → ((a < p .digest) → rightsOf (p .kind) .scrambled ≡ true → sensedLocked (m .session) (numberAt map a) ≡ true → ⊥) → ReadDenied map m a → ⊥
-  unfolding sensedLocked rightsOf
+  unfolding sensedLocked readLocked rightsOf
   not-denied q f g (past h) = omega (arith, q .below)
   not-denied q f g (inLifeCycle h) = true-not-false (q .direct) (rw h refl)
   not-denied q f g (locked d l h) = f d (kind-lockable l) h
   not-denied q f g (secretLocked d y h) = g d (keyed-scrambled y) (ap not (ne-eqb _ 0 h))
 
   read-ends : Ends (readAct prims map m a)
-  unfolding readAct perform
+  unfolding readAct perform readLocked
   read-ends =
       if-both Ends (leb (limit map) a) _ _ (λ t. denied (past (leb-true _ _ t)) refl)
       λ l. if-both Ends (not (rightsOf (p .kind) .direct)) _ _ (λ t. denied (inLifeCycle (life-cycle-only _ (not-true _ t))) refl)

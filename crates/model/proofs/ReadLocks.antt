@@ -3,18 +3,18 @@
 use mathlib.Core.Path.{_≡_, refl, sym, ap, _∙_}
 use mathlib.Core.Bool.{Bool, true, false, not}
 use mathlib.Core.List.{List, [], _∷_}
-use Prim.Native.Nat.{ℕ}
+use Prim.Native.Nat.{ℕ, _<_}
 use native.Mathlib.Omega.{arith}
 use lib.Dec.{eqb, leb, ltb}
 use lib.ListN.{length, getD, set, length-set}
 use lib.Seq.{set-out, getD-set-same, getD-set-other}
 use borrow.Author.Tests.{eqb-true, eqb-false, ltb-true, ltb-false, not-false, not-true}
 use Rattle.basics.specs.Choice.{if_then_else_}
-use Rattle.basics.proofs.Choice.{true-not-false, by-cases, if-both, if-same}
+use Rattle.basics.proofs.Choice.{true-not-false, by-cases, if-both, if-same, not-passed}
 use Rattle.partitions.specs.Map.{Map, rightsOf, numberAt, partition, partitionAt, limit}
 use Rattle.partitions.specs.Fitness.{fit}
 use Rattle.partitions.proofs.KindRights.{lockable-direct}
-use Rattle.partitions.proofs.Map.{digest-below-ten, partition-at}
+use Rattle.partitions.proofs.Map.{digest-below-ten, partition-at, direct-known}
 use Rattle.life_cycle.specs.Constants.{validConstants}
 use Rattle.model.specs.declared.Session.{Session}
 use Rattle.model.specs.declared.Answer.the-variants.{Denied, NotReady, Done}
@@ -304,7 +304,10 @@ module _ (prims : Primitives) (map : Map) where
 
 -- ---- a lock of a partition whose kind has none
 
-module _ (prims : Primitives) (map : Map) (m : Machine) (a : ℕ) (none : rightsOf (partitionAt map a .kind) .lockable ≡ false) (locks : List Bool) where
+module _ (prims : Primitives) (map : Map) (m : Machine) (a : ℕ) (absent : Lockable (partitionAt map a .kind) → ⊥) (locks : List Bool) where
+  none : rightsOf (partitionAt map a .kind) .lockable ≡ false
+  none = not-passed _ (λ t. absent (lockable-kind _ t))
+
   abbrev relocked : Machine
   relocked = record { lent = m .lent; session = withLocks locks (m .session) }
 
@@ -324,9 +327,9 @@ module _ (prims : Primitives) (map : Map) (m : Machine) (a : ℕ) (none : rights
 module _ (prims : Primitives) (map : Map) (m : Machine) (n : ℕ) where
   abbrev Taken : Step → Type 0
   Taken s =
-      (Lockable (partition map n .kind)
+      (n < length map → Lockable (partition map n .kind)
       → (s .result .answer ≡ Done 0) × (s .result .machine ≡ record { lent = m .lent; session = withLocks (set (m .session .locks) n true) (m .session) }))
-      × ((Lockable (partition map n .kind) → ⊥) → Says 0x05 0 (s .result .answer))
+      × ((n < length map → Lockable (partition map n .kind) → ⊥) → Says 0x05 0 (s .result .answer))
 
   pub lock-exact : Right map m → m .session .phase ≡ Ready → Taken (step prims map (ReadLock n) m)
   unfolding obey act performed readyAct commandAct readLockAct perform turned isReady
@@ -335,5 +338,5 @@ module _ (prims : Primitives) (map : Map) (m : Machine) (n : ℕ) where
       rw (step-obeys prims map (ReadLock n) m r)
       (if-both to (not (isReady (m .session .phase))) _ _ (λ t. absurd (true-not-false (ap isReady e) (not-true _ t)))
       λ t. if-both to (not (rightsOf (partition map n .kind) .lockable)) _ _
-      (λ u. ((λ k. absurd (true-not-false (kind-lockable k) (not-true _ u))), λ k. (refl, refl)))
-      λ u. ((λ k. (refl, refl)), λ k. absurd (k (lockable-kind _ (not-false _ u)))))
+      (λ u. ((λ l k. absurd (true-not-false (kind-lockable k) (not-true _ u))), λ k. (refl, refl)))
+      λ u. ((λ l k. (refl, refl)), λ k. absurd (k (direct-known map n (lockable-direct _ (not-false _ u))) (lockable-kind _ (not-false _ u)))))

@@ -5,6 +5,8 @@ use mathlib.Core.List.{_∷_}
 use Rattle.partitions.specs.Map.{Map}
 use Rattle.partitions.specs.Map2.{map2}
 use Rattle.partitions.specs.Fitness.{fit}
+use Rattle.words.specs.Words.{numberOf}
+use Rattle.words.proofs.Words.{number-words}
 use Rattle.model.specs.declared.Command.the-variants.{PowerUp}
 use Rattle.model.specs.Lent.{Primitives}
 use Rattle.model.specs.Step.{after}
@@ -31,18 +33,18 @@ use Rattle.model.proofs.ReadCodes.{read-exact, read-shows, front-exact}
 use Rattle.model.proofs.NamedWords.{refused-named, locked-denied}
 use Rattle.model.proofs.SecondBurns.{found-blank, no-second-burn, granule-final}
 use Rattle.model.proofs.Writes.{write-taken, words-last, reads-back, reads-last}
-use Rattle.model.proofs.WriteCodes.{write-exact, write-allowed}
+use Rattle.model.proofs.WriteCodes.{write-exact, write-allowed, write-puts}
 use Rattle.model.proofs.OldRule.{old-rule}
 use Rattle.model.proofs.StoredWords.{write-stores, blank-lowest, cleared-lowest}
 use Rattle.model.proofs.Chips.{two-chips}
 use Rattle.model.proofs.Digests.{whole-digests}
 use Rattle.model.proofs.Courses.{never-four, courses-run, counts}
 use Rattle.model.proofs.TransitionCells.{step-told}
-use Rattle.model.proofs.TransitionCodes.{fair-exact, tokens-compared}
+use Rattle.model.proofs.TransitionCodes.{fair-exact, tokens-compared, record-sevens, done-value}
+use Rattle.model.proofs.Comparisons.{step-compared}
 use Rattle.model.proofs.TransitionLeaves.{leaves, reached-fair}
 use Rattle.model.proofs.LifeCycleTables.{life-cycles}
 use Rattle.model.proofs.Tokens.{tokens}
-use Rattle.model.proofs.TokenPlaces.{stored-place}
 use Rattle.model.proofs.Since.{since-held, since-reached}
 use Rattle.model.proofs.PowerUps.{alone, again, cleared, failed}
 use Rattle.model.proofs.FrontReads.{fronts, device-final}
@@ -50,7 +52,7 @@ use Rattle.model.proofs.Quiet.{after-unsensed}
 use Rattle.model.proofs.ReadLocks.{lock-exact, locks-last, lock-others, lock-says-nothing}
 use Rattle.model.proofs.DigestCodes.{digest-codes}
 use Rattle.model.proofs.DigestChecks.{digest-exact, digest-done, digest-only, digest-stored}
-use Rattle.model.proofs.PowerUpCodes.{power-up-sixes, power-up-invalid, power-up-scrap, power-up-done, power-up-sensed, power-up-copy}
+use Rattle.model.proofs.PowerUpCodes.{power-up-sixes, power-up-invalid, power-up-scrap, power-up-done, power-up-verdicts, no-verdict, power-up-sensed, power-up-copy}
 use Rattle.model.proofs.FailedDigests.{sixes, digest-passes}
 use Rattle.model.proofs.FailedLifeCycles.{sevens}
 use Rattle.model.proofs.Everything.{everything}
@@ -84,6 +86,7 @@ burns prims C map F = record {
   refused = refused-named prims map;
   locked = locked-denied prims map;
   exactly = λ m r ready a value. write-exact prims map m a value r ready;
+  puts = λ m r a value. write-puts prims map F m r a value;
   stores = write-stores prims map F;
   blanks = blank-lowest map;
   clearedBits = cleared-lowest map;
@@ -100,12 +103,14 @@ transitions prims map F = record {
   moved = λ m target high low. step-told prims map m target high low F .moved;
   stopped = λ m target high low. step-told prims map m target high low F .stopped;
   exactly = fair-exact prims map;
+  records = λ m r e target high low. record-sevens prims map m target high low r e;
+  values = done-value prims map;
+  comparisons = λ m target high low. (let t = step-compared prims map m target high low in (t .differs, t .free, t .same, t .other));
   tokens = tokens-compared prims map;
   fair = λ m r l e. (reached-fair prims map F (after prims map (PowerUp ∷ l) m) (since-reached prims map F m r l) e, never-four prims map F m r l);
   leaves = λ m r l. leaves prims map F (after prims map (PowerUp ∷ l) m) (since-reached prims map F m r l);
   courses = courses-run prims map F;
   counts = counts;
-  places = stored-place map F;
 }
 
 pub digests : (prims : Primitives) → DigestFits prims → (map : Map) → fit map ≡ true → Digests prims map
@@ -120,6 +125,8 @@ digests prims G map F = record {
 
 pub reading : (prims : Primitives) (map : Map) → fit map ≡ true → Reads prims map
 reading prims map F = record {
+  numbers = λ word words. unfold numberOf in refl;
+  words = number-words;
   read = λ m r e a. read-exact prims map F m a r e;
   shows = λ m r a. read-shows prims map F m a r;
   frontRead = λ m r e a. front-exact prims map F m a r e;
@@ -131,6 +138,8 @@ power-ups prims map F = record {
   invalid = power-up-invalid prims map;
   scrap = power-up-scrap prims map;
   done = power-up-done prims map;
+  verdicts = power-up-verdicts prims map;
+  noVerdict = no-verdict prims map F;
   sensed = power-up-sensed prims map F;
   copy = power-up-copy prims map F;
 }
@@ -148,9 +157,10 @@ read-locks prims map F = record {
 
 pub sensing : (prims : Primitives) (map : Map) → fit map ≡ true → Sensing prims map
 sensing prims map F = record {
+  fresh = refl;
   since = λ m r l₀ l₁ u. since-held prims map F m r l₀ l₁ u .holds;
   fronts = fronts prims map F;
-  device = λ m r n D front l₁ l₂ z. device-final prims map F m r n D l₁ z l₂;
+  device = λ m r n D l₁ l₂ z. device-final prims map F m r n D l₁ z l₂;
   unsensed = after-unsensed prims map;
   cleared = cleared prims map;
   failed = failed prims map;

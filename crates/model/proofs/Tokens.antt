@@ -106,21 +106,29 @@ module _ (prims : Primitives) (C : Cipher prims) (map : Map) (F : fit map ≡ tr
       λ q. (locked, subst (λ (x : ℕ). Agrees (prims .hash given) x same) (sym stored-hash) q),
     )
 
+  token-place : {token : Token} {k : Kind} {first offset : ℕ} → TokenAt token k first offset
+      → let p = partition map (numberOfKind map k) in
+      (p .kind ≡ k) × (p .start / 2 + offset + 8 ≤ p .digest / 2)
+  token-place testUnlock = let q = secret0 map F in (q .isKind, data-room kind.Secret0 0 40 (q .known) (q .isKind) (q .sized) KeyAt.secret0 (omega arith))
+  token-place testExit = let q = secret0 map F in (q .isKind, data-room kind.Secret0 8 40 (q .known) (q .isKind) (q .sized) KeyAt.secret0 (omega arith))
+  token-place rma = let q = secret2 map F in (q .isKind, data-room kind.Secret2 0 88 (q .known) (q .isKind) (q .sized) KeyAt.secret2 (omega arith))
+
   token-compared : (c₀ : List ℕ) (m : Machine) → Since prims map c₀ m → (token : Token) (k : Kind) (first offset low high : ℕ) → TokenAt token k first offset
       → low < 2 ^ 64 → high < 2 ^ 64 → HashStored prims map (m .lent .constants) c₀ k first offset low high
       → (given : ℕ) (same : Bool) → Compared prims map m given same token ↔ Agrees (prims .hash given) (high * 2 ^ 64 + low) same
   token-compared c₀ m s token k first offset low high testUnlock a b h =
       let q = secret0 map F in
-      stored-compared c₀ m s kind.Secret0 0 0 low high (q .known) (q .isKind) KeyAt.secret0 a b (data-room kind.Secret0 0 40 (q .known) (q .isKind) (q .sized) KeyAt.secret0 (omega arith)) (omega arith) h
+      stored-compared c₀ m s kind.Secret0 0 0 low high (q .known) (q .isKind) KeyAt.secret0 a b (token-place testUnlock .1) (omega arith) h
   token-compared c₀ m s token k first offset low high testExit a b h =
       let q = secret0 map F in
-      stored-compared c₀ m s kind.Secret0 0 8 low high (q .known) (q .isKind) KeyAt.secret0 a b (data-room kind.Secret0 8 40 (q .known) (q .isKind) (q .sized) KeyAt.secret0 (omega arith)) (omega arith) h
+      stored-compared c₀ m s kind.Secret0 0 8 low high (q .known) (q .isKind) KeyAt.secret0 a b (token-place testExit .1) (omega arith) h
   token-compared c₀ m s token k first offset low high rma a b h =
       let q = secret2 map F in
-      stored-compared c₀ m s kind.Secret2 16 0 low high (q .known) (q .isKind) KeyAt.secret2 a b (data-room kind.Secret2 0 88 (q .known) (q .isKind) (q .sized) KeyAt.secret2 (omega arith)) (omega arith) h
+      stored-compared c₀ m s kind.Secret2 16 0 low high (q .known) (q .isKind) KeyAt.secret2 a b (token-place rma .1) (omega arith) h
 
   pub tokens : Tokens prims map
   tokens = record {
+    places = token-place;
     compared = λ m r l₀ l₁ u ready token k first offset low high at a b h.
         (let s = since-held prims map F m r l₀ l₁ u .holds ready in
         let same : after prims map (l₀ ++ PowerUp ∷ l₁) m .lent .constants ≡ m .lent .constants = after-constants prims map (l₀ ++ PowerUp ∷ l₁) m in

@@ -1,14 +1,15 @@
 -- When a transition gives each code. The idea: where the words are taken, the table's entry and the token decide the code (`due`); each end has that code, or a 4.
+use Rattle.model.specs.Claims.Terms.{Right, Says}
 use mathlib.Core.Path.{_≡_, refl, sym, ap, _∙_}
-use mathlib.Core.Bool.{Bool, true, false}
+use mathlib.Core.Bool.{Bool, true, false, _&&_, not}
 use mathlib.Core.List.{List}
-use mathlib.Core.Logic.{_↔_, _⊎_, ⊎-elim}
+use mathlib.Core.Logic.{_↔_, _⊎_, ⊎-elim, inr, inl}
 use Prim.Native.Nat.{ℕ, suc, _+_, _/_, _*_, _^_, _≤_, _<_}
 use native.Mathlib.Omega.{arith}
-use lib.Dec.{eqb}
-use borrow.Author.Tests.{eqb-false, eq-eqb, ne-eqb}
+use lib.Dec.{eqb, leb}
+use borrow.Author.Tests.{eqb-false, eq-eqb, ne-eqb, lt-leb, leb-false, not-true, not-false}
 use Rattle.basics.specs.Choice.{if_then_else_}
-use Rattle.basics.proofs.Choice.{true-not-false, if-true, if-false}
+use Rattle.basics.proofs.Choice.{true-not-false, if-true, if-false, by-cases, and-left, and-right, not-passed, and-both, if-both}
 use Rattle.words.specs.Programming.{programAnswer}
 use Rattle.words.proofs.Programming.{refused-not-done, program-elsewhere, answer-same}
 use Rattle.partitions.specs.declared.Kind.{Kind}
@@ -20,17 +21,21 @@ use Rattle.life_cycle.specs.declared.Entry.the-variants.{Allowed, Forbidden}
 use Rattle.life_cycle.specs.Words.{stateWords}
 use Rattle.life_cycle.specs.Transitions.{transition}
 use Rattle.life_cycle.proofs.Encoding.{counter-length}
+use Rattle.model.specs.declared.Phase.the-variants as phase
 use Rattle.model.specs.declared.Answer.{Answer}
+use Rattle.model.specs.declared.Answer.the-variants.{NotReady}
 use Rattle.model.specs.declared.Command.the-variants.{Transition}
-use Rattle.model.specs.Answers.{codeOf}
-use Rattle.model.specs.Session.{sensedAt}
+use Rattle.model.specs.Answers.{codeOf, valueOf}
+use Rattle.model.specs.Session.{sensedAt, isReady}
 use Rattle.model.specs.Lent.{Machine, Primitives}
-use Rattle.model.specs.Commands.{lifeCycleRule, counterAt, stateAt}
-use Rattle.model.specs.Step.{answerTo}
+use Rattle.model.specs.Acts.{Act, refuse, perform}
+use Rattle.model.specs.Commands.{lifeCycleRule, counterAt, stateAt, readyAct, commandAct, transitionAct}
+use Rattle.model.specs.Step.{answerTo, obey, act, performed}
 use Rattle.model.specs.Claims.Numbers.{Agrees, eightFrom}
 use Rattle.model.specs.Claims.Refusals.{early}
 use Rattle.model.specs.Claims.Transitions.{Stops, counterRefused, stateRefused, strokeWords, Compared, Asked, strokeOnly, Fair, Unlocked, testUnlock, testExit, rma, Stored}
-use Rattle.model.proofs.TransitionEnds.{struck, move, Ending, unknownTarget, used, counterStops, notInTable, tokenNotLocked, tokenDiffers, stateStops, moved, Room, step-ends}
+use Rattle.model.proofs.Steps.{step-obeys}
+use Rattle.model.proofs.TransitionEnds.{ends, struck, move, Ending, unknownTarget, used, counterStops, notInTable, tokenNotLocked, tokenDiffers, stateStops, moved, Room, step-ends}
 use Rattle.partitions.specs.declared.Kind.the-variants as kind
 use Rattle.words.specs.declared.Programmed.the-variants as programmed
 
@@ -242,3 +247,55 @@ unfolding early
 tokens-compared prims map m target high low =
     ⊎-elim (λ a. ((λ q. absurd (true-not-false (a .0) (rw q))), λ q. absurd (true-not-false (a .0) (rw q))))
     (λ a. (let w = why prims map m target (high * 2 ^ 64 + low) (a .2) in (w .same, w .other))) (step-ends prims map m target high low)
+
+-- ---- the record, and the value
+
+module _ (prims : Primitives) (map : Map) (m : Machine) (target high low : ℕ) where
+  ending-not-seven : {answer : Answer} {cells : List ℕ} → Ending prims map m target (high * 2 ^ 64 + low) answer cells → codeOf answer ≡ 0x07 → ⊥
+  ending-not-seven (unknownTarget h e) = rw e (λ q. omega arith)
+  ending-not-seven (used l h e f) = rw e (λ q. omega arith)
+  ending-not-seven (counterStops r h e f) = rw e (λ q. omega arith)
+  ending-not-seven (notInTable t h e f) = rw e (λ q. omega arith)
+  ending-not-seven (tokenNotLocked t h e f) = rw e (λ q. omega arith)
+  ending-not-seven (tokenDiffers t h e f) = rw e (λ q. omega arith)
+  ending-not-seven (stateStops t a h e f) = rw e (λ q. omega arith)
+  ending-not-seven (moved t h g e f) = rw e (λ q. omega arith)
+
+  -- a record out of range
+  outside : (leb (m .session .state) 20 && leb (m .session .count) 24) ≡ false → (20 < m .session .state) ⊎ (24 < m .session .count)
+  outside e =
+      by-cases (leb (m .session .state) 20) (λ s. inr (leb-false _ _ (not-passed (leb (m .session .count) 24) (λ c. true-not-false (and-both _ _ s c) e)))) (λ s. inl (leb-false _ _ s))
+
+  not-inside : (20 < m .session .state) ⊎ (24 < m .session .count) → (leb (m .session .state) 20 && leb (m .session .count) 24) ≡ true → ⊥
+  not-inside h e =
+      ⊎-elim (λ q. true-not-false (and-left (leb (m .session .state) 20) _ e) (lt-leb _ _ q)) (λ q. true-not-false (and-right (leb (m .session .state) 20) _ e) (lt-leb _ _ q)) h
+
+  record-refused : (leb (m .session .state) 20 && leb (m .session .count) 24) ≡ false
+      → Says 0x07 0 (perform (refuse NotReady) (m .lent .copy) (m .lent .cells) .answer) ↔ ((20 < m .session .state) ⊎ (24 < m .session .count))
+  unfolding perform
+  record-refused e = ((λ q. outside e), λ q. (refl, refl))
+
+  pub record-sevens : Right map m → m .session .phase ≡ phase.Ready
+      → Says 0x07 0 (answerTo prims map (Transition target high low) m) ↔ ((20 < m .session .state) ⊎ (24 < m .session .count))
+  unfolding obey act performed readyAct commandAct transitionAct isReady
+  record-sevens r e =
+      let to : Act → Type 0 = λ x. Says 0x07 0 (perform x (m .lent .copy) (m .lent .cells) .answer) ↔ ((20 < m .session .state) ⊎ (24 < m .session .count)) in
+      rw (step-obeys prims map (Transition target high low) m r, answerTo)
+      (if-both to (not (isReady (m .session .phase))) _ _ (λ t. absurd (true-not-false (ap isReady e) (not-true _ t)))
+      λ t. if-both to (not (leb (m .session .state) 20 && leb (m .session .count) 24)) _ _
+      (λ u. record-refused (not-true _ u))
+      λ u. ((λ q. absurd (ending-not-seven (ends prims map m target (high * 2 ^ 64 + low)) (q .0))), λ q. absurd (not-inside q (not-false _ u))))
+
+  ending-value : {answer : Answer} {cells : List ℕ} → Ending prims map m target (high * 2 ^ 64 + low) answer cells → codeOf answer ≡ 0x00 → valueOf answer ≡ 0
+  ending-value (unknownTarget h e) = rw e (λ q. refl)
+  ending-value (used l h e f) = rw e (λ q. refl)
+  ending-value (counterStops r h e f) = rw e (λ q. absurd (omega arith))
+  ending-value (notInTable t h e f) = rw e (λ q. refl)
+  ending-value (tokenNotLocked t h e f) = rw e (λ q. refl)
+  ending-value (tokenDiffers t h e f) = rw e (λ q. refl)
+  ending-value (stateStops t a h e f) = rw e (λ q. absurd (omega arith))
+  ending-value (moved t h g e f) = rw e (λ q. refl)
+
+  pub done-value : codeOf (answerTo prims map (Transition target high low) m) ≡ 0x00 → valueOf (answerTo prims map (Transition target high low) m) ≡ 0
+  unfolding early
+  done-value q = ⊎-elim (λ a. absurd (true-not-false (a .0) (rw q))) (λ a. ending-value (a .2) q) (step-ends prims map m target high low)

@@ -120,7 +120,7 @@ module _ (prims : Primitives) (map : Map) (m : Machine) (target given : ℕ) whe
   strikes room = after-both Ends (programAnswer lifeCycleRule cells₀ (counterAt map) stroke) _ _ (λ e. asks _ refl (room, e)) (λ cell e. counterStops room e refl refl)
 
   -- once the record is judged
-  ends : Ends (perform
+  pub ends : Ends (perform
       (if not (leb target 20) then say UnknownTarget stay
       else if not (ltb (m .session .count) 24) then say StrokesUsed halt
       else program lifeCycleRule (counterAt map) stroke die (entryAct prims map m (transition (m .session .state) target) target given)) copy cells₀)

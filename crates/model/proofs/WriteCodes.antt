@@ -1,10 +1,14 @@
 -- When a write answers 5, 4 and 0. The idea: the guards of its act are the reasons of a 5, one by one; past them the granule decides, and its words are all taken or
 -- one of them is the lowest that refuses.
+use lib.ListN.{length}
+use Rattle.partitions.proofs.Granules.{granule-within}
+use Rattle.words.proofs.Words.{length-words}
+use Rattle.partitions.specs.declared.Partition.{Partition}
 use mathlib.Core.Path.{_≡_, refl, sym, ap, _∙_}
 use mathlib.Core.Bool.{true, false, not, _&&_}
 use mathlib.Core.List.{List}
 use mathlib.Core.Logic.{_↔_}
-use Prim.Native.Nat.{ℕ}
+use Prim.Native.Nat.{ℕ, _+_, _≤_, _<_}
 use native.Mathlib.Omega.{arith}
 use lib.Dec.{leb}
 use borrow.Author.Tests.{eqb-true, eq-eqb, leb-true, leb-false, le-leb, not-false, not-true}
@@ -23,18 +27,19 @@ use Rattle.model.specs.declared.Command.the-variants.{Write, PowerUp}
 use Rattle.model.specs.Answers.{codeOf}
 use Rattle.model.specs.Session.{isReady, sensedAt, sensedLocked}
 use Rattle.model.specs.Lent.{Machine, Primitives}
-use Rattle.model.specs.Acts.{Act, perform}
+use Rattle.model.specs.Acts.{Act, perform, Performed}
 use Rattle.model.specs.Commands.{directRule, writeAct, commandAct, readyAct}
 use Rattle.model.specs.Step.{act, performed, obey, after, machineAfter, answerTo}
-use Rattle.model.specs.Claims.Terms.{Right, Says, Cipher, Digested, storedWords, Allowed}
+use Rattle.model.specs.Claims.Terms.{Right, Says, Put, Cipher, Digested, storedWords, Allowed}
 use Rattle.model.specs.Claims.Demand3.{Ready}
 use Rattle.model.specs.Claims.Sensing.{Since}
 use Rattle.model.specs.Claims.Burns.{WriteDenied, past, inLifeCycle, inHardwareDigest, locked}
 use Rattle.model.proofs.KindNames.{hardware-kind, kind-hardware}
 use Rattle.model.proofs.Acts.{after-both}
-use Rattle.model.proofs.Steps.{step-obeys, after-right, after-constants, step-constants}
+use Rattle.model.proofs.Steps.{step-obeys, after-right, after-constants, step-constants, cells-length}
 use Rattle.model.proofs.Since.{first-since, after-since, since-sensed}
 use Rattle.model.proofs.Writes.{write-takes}
+use Rattle.model.proofs.TransitionCells.{put-words}
 use Rattle.words.specs.declared.Programmed.the-variants as programmed
 use Rattle.model.specs.declared.Phase.the-variants as phase
 
@@ -150,3 +155,32 @@ module _ (prims : Primitives) (C : Cipher prims) (map : Map) (F : fit map ≡ tr
         (λ z. rw k at (done-allowed prims map m₁ a value F (m₀ .lent .cells) f (ready-ends prims map m₁ a value (f .right) (f .ready)) z)),
         λ al. ap codeOf (write-takes prims C map F (m₀ .lent .cells) m₁ f a value (rw k al) .done),
       )
+
+-- ---- the cells of a write that answers 0
+
+module _ (prims : Primitives) (map : Map) (F : fit map ≡ true) (m : Machine) (r : Right map m) (a value : ℕ) where
+  abbrev p : Partition
+  p = partitionAt map a
+
+  abbrev words : List ℕ
+  words = storedWords prims map (m .lent .constants) a value
+
+  abbrev Puts : Performed → Type 0
+  Puts x = codeOf (x .answer) ≡ 0x00 → Put (directRule p a) (firstWord p a) words (m .lent .cells) (x .cells)
+
+  act-puts : Puts (perform (readyAct prims map m (Write a value)) (m .lent .copy) (m .lent .cells))
+  unfolding readyAct commandAct writeAct perform
+  act-puts =
+      let to : Act → Type 0 = λ x. Puts (perform x (m .lent .copy) (m .lent .cells)) in
+      if-both to _ _ _ (λ t z. absurd (omega arith)) λ t. if-both to (leb (limit map) a) _ _ (λ t z. absurd (omega arith)) λ l. if-both to _ _ _ (λ t z. absurd (omega arith))
+      λ t. if-both to _ _ _ (λ t z. absurd (omega arith)) λ t. if-both to _ _ _ (λ t z. absurd (omega arith))
+      λ t. after-both Puts (programAnswer (directRule p a) (m .lent .cells) (firstWord p a) words) _ _
+      (λ e z. put-words (directRule p a) (firstWord p a) words (m .lent .cells) (room (leb-false _ _ l)) e) (λ i e z. absurd (omega arith))
+    where
+      room : a < limit map → firstWord (partitionAt map a) a + length (storedWords prims map (m .lent .constants) a value) ≤ length (m .lent .cells)
+      room l = rw length-words (omega (arith, granule-within map F l, cells-length prims map m r))
+
+  pub write-puts : codeOf (answerTo prims map (Write a value) m) ≡ 0x00
+      → Put (directRule p a) (firstWord p a) words (m .lent .cells) (machineAfter prims map (Write a value) m .lent .cells)
+  unfolding obey act performed
+  write-puts = rw (step-obeys prims map (Write a value) m r, answerTo, machineAfter) act-puts

@@ -12,6 +12,8 @@ use Rattle.basics.proofs.Range.{all-at}
 use Rattle.words.specs.declared.Rule.the-variants.{KeepBits}
 use Rattle.words.specs.Words.{wordsOf, partAt}
 use Rattle.words.specs.Programming.{losesBit, Lowest}
+use Rattle.partitions.specs.declared.Kind.{Kind}
+use Rattle.partitions.specs.declared.Kind.the-variants as kind
 use Rattle.partitions.specs.Map.{partitionAt, firstWord, wordCount}
 use Rattle.partitions.specs.Map2.{map2}
 use Rattle.partitions.proofs.Maps.{map2-fit}
@@ -26,6 +28,7 @@ use Rattle.model.specs.Step.{step, after, answers, machineAfter, answerTo}
 use Rattle.model.specs.CaseTables.{arrayWith, offChip}
 use Rattle.model.specs.Claims.Terms.{Right, Lasts, Spared, usedValue, Allowed, TakesEffect}
 use Rattle.model.specs.Claims.OldRule.{InAuthState, twoWords, Gains}
+use Rattle.model.specs.Claims.Numbers.{Lockable}
 use Rattle.model.specs.Claims.All.{Claims}
 use Rattle.model.proofs.Everything.{everything}
 use Rattle.model.proofs.ToyChip.{toy}
@@ -206,5 +209,9 @@ locks-that-count : answers toy map2 (Read 0x000 ∷ Read 0x040 ∷ Read 0x140 �
 unfolding everything map2
 locks-that-count = refl
 
+hw-cfg-unlocked : {k : Kind} → k ≡ kind.HwCfg → Lockable k → ⊥
+hw-cfg-unlocked e Lockable.software = let z : _≡_ {A = ℕ} 0 1 = cc in omega arith
+hw-cfg-unlocked e Lockable.authState = let z : _≡_ {A = ℕ} 0 1 = cc in omega arith
+
 lock-of-none : answerTo toy map2 (Read 0x440) (with-locks true) ≡ answerTo toy map2 (Read 0x440) (with-locks false)
-lock-of-none = toy-claims .readLocks .lockless (with-locks false) 0x440 (unfold everything map2 in refl) (replicate 10 true)
+lock-of-none = toy-claims .readLocks .lockless (with-locks false) 0x440 (hw-cfg-unlocked (unfold everything map2 in refl)) (replicate 10 true)

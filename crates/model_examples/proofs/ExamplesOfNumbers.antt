@@ -74,7 +74,7 @@ unfolding everything
 named = (refl, refl)
 
 no-lock : Says 0x05 0 (answerTo toy map1 (ReadLock 2) (ready 0 blank))
-no-lock = toy-claims .readLocks .exactly (ready 0 blank) ready-right refl 2 .1 hw-cfg
+no-lock = toy-claims .readLocks .exactly (ready 0 blank) ready-right refl 2 .1 (λ l. hw-cfg)
   where
     none : {k : Kind} → k ≡ kind.HwCfg → Lockable k → ⊥
     none e Lockable.software = let z : _≡_ {A = ℕ} 0 1 = cc in omega arith

@@ -20,7 +20,7 @@ use Rattle.model.specs.Session.{isReady, sensedAt, sensedLocked}
 use Rattle.model.specs.Lent.{Machine, Primitives}
 use Rattle.model.specs.Commands.{directRule, digestRule, lifeCycleRule, granule, computedDigest, counterAt}
 use Rattle.model.specs.Step.{step, after, machineAfter, answerTo}
-use Rattle.model.specs.Claims.Terms.{Right, Says, storedWords, Spared, Allowed, usedValue}
+use Rattle.model.specs.Claims.Terms.{Right, Says, Put, storedWords, Spared, Allowed, usedValue}
 use Rattle.model.specs.Claims.Numbers.{KeyAt, Plain, Hardware, Lockable, LowestBurnt, LowestCleared, eightFrom}
 use Rattle.model.specs.Claims.Demand3.{Ready}
 use Rattle.words.specs.declared.Programmed.the-variants as programmed
@@ -99,6 +99,10 @@ module _ (prims : Primitives) (map : Map) where
         (Says 0x05 0 answer ↔ WriteDenied m a)
         × ((i : ℕ) → Says 0x04 i answer ↔ ((WriteDenied m a → ⊥) × Lowest (directRule p a) (m .lent .cells) (firstWord p a) words i))
         × (Says 0x00 0 answer ↔ ((WriteDenied m a → ⊥) × (programAnswer (directRule p a) (m .lent .cells) (firstWord p a) words ≡ programmed.Done)))
+    -- "Otherwise the words become the value": a write that answers 0 programs these words from its granule's first on, and no other cell changes
+    pub puts : (m : Machine) → Right map m → (a value : ℕ) → codeOf (answerTo prims map (Write a value) m) ≡ 0x00
+        → let p = partitionAt map a in
+        Put (directRule p a) (firstWord p a) (storedWords prims map (m .lent .constants) a value) (m .lent .cells) (machineAfter prims map (Write a value) m .lent .cells)
     -- the words that a write that is not denied is to store, by kind
     pub stores : (m : Machine) (a value : ℕ) → (WriteDenied m a → ⊥) → Stores (m .lent .constants) a value (storedWords prims map (m .lent .constants) a value)
     -- "refused with 4 if any word of its target granule is nonzero, whatever the value"; "AUTH_STATE data, like LIFE_CYCLE, keeps the old rule": the lowest word that

@@ -33,7 +33,7 @@ pub record ValidPairs (constants : List ℕ) : Type 0 where
   pub counter : (i : ℕ) → i < 24 → ValidPair (getD constants (36 + i) 0) (getD constants (60 + i) 0)
   pub state : (i : ℕ) → i < 20 → ValidPair (getD constants (84 + i) 0) (getD constants (104 + i) 0)
 
--- the codes that may carry a value: 0, 4, 6, and 7 of a power-up
+-- the codes that carry a value, but for 7 of a power-up
 abbrev pub valued : ℕ → Bool
 valued code = eqb code 0x00 || eqb code 0x04 || eqb code 0x06
 

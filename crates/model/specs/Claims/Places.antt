@@ -3,6 +3,7 @@ use Prim.Native.Nat.{ℕ, _+_, _*_, _/_, _≤_, _<_}
 use mathlib.Core.Path.{_≡_}
 use mathlib.Core.Logic.{_↔_}
 use lib.ListN.{length}
+use Rattle.partitions.specs.declared.Kind.the-variants as kind
 use Rattle.partitions.specs.Map.{Map, numberAt, partition, partitionAt, limit, firstWord, wordCount}
 use Rattle.model.specs.Claims.Numbers.{KeyAt, Plain}
 
@@ -19,6 +20,7 @@ pub record Places (map : Map) : Type 0 where
   pub digests : (a : ℕ) → a < limit map → partitionAt map a .digest ≤ a → wordCount (partitionAt map a) a ≡ 4
   pub secrets : (a first : ℕ) → a < limit map → KeyAt (partitionAt map a .kind) first → wordCount (partitionAt map a) a ≡ 4
   pub plains : (a : ℕ) → a < limit map → a < partitionAt map a .digest → Plain (partitionAt map a .kind) → wordCount (partitionAt map a) a ≡ 2
+  pub lifeCycle : (a : ℕ) → a < limit map → partitionAt map a .kind ≡ kind.LifeCycle → a < partitionAt map a .digest → wordCount (partitionAt map a) a ≡ 2
   -- "low address bits inside a granule are ignored": the address is in its granule, which begins at a multiple of its size
   pub granules : (a : ℕ) → a < limit map
       → let first = firstWord (partitionAt map a) a in

@@ -1,17 +1,21 @@
--- Power-up: each answer if and only if its reason, and what it senses.
+-- Power-up: each answer by its reason, and what it senses.
 use Prim.Native.Nat.{ℕ, _+_, _*_, _/_, _%_, _≤_, _<_}
 use mathlib.Core.Path.{_≡_}
+use mathlib.Core.List.{[], _∷_}
 use mathlib.Core.Logic.{_↔_}
+use mathlib.Core.Option.{none, some}
 use lib.ListN.{length, getD}
 use Rattle.words.specs.Words.{numberOf, wordsOf, partAt}
 use Rattle.partitions.specs.Map.{Map, partition, partitionAt, limit, numberOfKind}
 use Rattle.life_cycle.specs.Words.{counterWords, stateWords}
+use Rattle.model.specs.declared.Phase.the-variants as phase
+use Rattle.model.specs.declared.Command.{Command}
 use Rattle.model.specs.declared.Command.the-variants.{PowerUp}
 use Rattle.model.specs.Answers.{codeOf}
 use Rattle.model.specs.Session.{sensedAt}
 use Rattle.model.specs.Lent.{Lent, Machine, Primitives}
-use Rattle.model.specs.Step.{machineAfter, answerTo}
-use Rattle.model.specs.Claims.Terms.{Right, Digested, Says}
+use Rattle.model.specs.Step.{step, machineAfter, answerTo}
+use Rattle.model.specs.Claims.Terms.{Right, Digested, Says, notPowerUp}
 use Rattle.model.specs.Claims.Numbers.{KeyAt, Hardware, Lockable, eightFrom, digestIn, digestOf}
 use Rattle.partitions.specs.declared.Kind.the-variants as kind
 
@@ -54,8 +58,16 @@ module _ (prims : Primitives) (map : Map) where
         → (Says 0x07 0xFFFF (answerTo prims map PowerUp m)) ↔ ((state count : ℕ) → Encodes (m .lent) state count → ⊥)
     pub scrap : (m : Machine) → Right map m → ((n : ℕ) → Fails (m .lent) n → ⊥) → (count : ℕ)
         → Encodes (m .lent) 20 count → Says 0x07 (256 * count + 20) (answerTo prims map PowerUp m)
+    -- "Success: Ready", with the state and the count that were decoded
     pub done : (m : Machine) → Right map m → ((n : ℕ) → Fails (m .lent) n → ⊥) → (state count : ℕ) → (state ≡ 20 → ⊥)
-        → Encodes (m .lent) state count → Says 0x00 (256 * count + state) (answerTo prims map PowerUp m)
+        → Encodes (m .lent) state count
+        → let s = machineAfter prims map PowerUp m .session in
+        Says 0x00 (256 * count + state) (answerTo prims map PowerUp m) × (s .phase ≡ phase.Ready) × (s .state ≡ state) × (s .count ≡ count)
+    -- "An integrity verdict is the first partition that fails a power-up's digest check, or none."; no other command has one
+    pub verdicts : (m : Machine) → Right map m
+        → let seen = step prims map PowerUp m .verdicts in
+        ((n : ℕ) → (seen ≡ some n ∷ []) ↔ FirstFails (m .lent) n) × ((seen ≡ none ∷ []) ↔ ((n : ℕ) → Fails (m .lent) n → ⊥))
+    pub noVerdict : (m : Machine) (x : Command) → notPowerUp x → step prims map x m .verdicts ≡ []
     -- "sensed digests of 0 to 5 are the stored ones"
     pub sensed : (m : Machine) → Right map m → codeOf (answerTo prims map PowerUp m) ≡ 0x00 → (n : ℕ) → Digested map n
         → sensedAt (machineAfter prims map PowerUp m .session) n ≡ digestIn map n (m .lent .cells)

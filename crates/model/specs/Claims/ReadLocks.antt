@@ -1,11 +1,11 @@
 -- Read locks: what a lock refuses, until when, and that nothing else looks at it.
-use Prim.Native.Nat.{ℕ}
+use Prim.Native.Nat.{ℕ, _<_}
 use mathlib.Core.Path.{_≡_}
 use mathlib.Core.Bool.{Bool, true, false}
 use mathlib.Core.List.{List, _∷_}
 use Rattle.basics.specs.Choice.{if_then_else_}
-use lib.ListN.{set}
-use Rattle.partitions.specs.Map.{Map, rightsOf, numberAt, partition, partitionAt, inDigest}
+use lib.ListN.{length, set}
+use Rattle.partitions.specs.Map.{Map, numberAt, partition, partitionAt, inDigest}
 use Rattle.model.specs.declared.Answer.the-variants.{Done, Denied, NotReady}
 use Rattle.model.specs.declared.Command.{Command}
 use Rattle.model.specs.declared.Command.the-variants.{Read, Write, FrontRead, Digest, ReadLock, Transition, PowerUp}
@@ -32,9 +32,9 @@ module _ (prims : Primitives) (map : Map) where
     -- "5 unless 0 or 1 .. locking again answers 0": the kinds with a read lock, and the record gains that lock alone
     pub exactly : (m : Machine) → Right map m → m .session .phase ≡ phase.Ready → (n : ℕ)
         → let answer = answerTo prims map (ReadLock n) m in
-        (Lockable (partition map n .kind)
+        (n < length map → Lockable (partition map n .kind)
         → (answer ≡ Done 0) × (machineAfter prims map (ReadLock n) m ≡ record { lent = m .lent; session = withLocks (set (m .session .locks) n true) (m .session) }))
-        × ((Lockable (partition map n .kind) → ⊥) → Says 0x05 0 answer)
+        × ((n < length map → Lockable (partition map n .kind) → ⊥) → Says 0x05 0 answer)
     -- "Lasts until power-up": from a read lock that answers 0 on, every read of the partition's data answers 5, or 7 where the phase is not Ready
     pub lasts : (m : Machine) → Right map m → (l₀ : List Command) (n : ℕ)
         → let m₀ = after prims map (PowerUp ∷ l₀) m in
@@ -48,5 +48,5 @@ module _ (prims : Primitives) (map : Map) where
         let m₂ = after prims map l m in
         (m₁ .lent ≡ m₂ .lent) × ((x : Command) → (readsData map n x → ⊥) → answerTo prims map x m₁ ≡ answerTo prims map x m₂)
     -- a read lock of a partition whose kind has none says nothing: whatever locks the record holds, a read there answers the same
-    pub lockless : (m : Machine) (a : ℕ) → rightsOf (partitionAt map a .kind) .lockable ≡ false → (locks : List Bool)
+    pub lockless : (m : Machine) (a : ℕ) → (Lockable (partitionAt map a .kind) → ⊥) → (locks : List Bool)
         → answerTo prims map (Read a) (record { lent = m .lent; session = withLocks locks (m .session) }) ≡ answerTo prims map (Read a) m

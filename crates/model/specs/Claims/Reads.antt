@@ -1,14 +1,16 @@
 -- Reads and front reads: each code if and only if its reason, and what is shown.
-use Prim.Native.Nat.{ℕ, _*_, _/_, _≤_, _<_}
+use Prim.Native.Nat.{ℕ, _+_, _*_, _/_, _%_, _^_, _≤_, _<_}
 use mathlib.Core.Path.{_≡_}
-use mathlib.Core.Bool.{true}
+use mathlib.Core.Bool.{true, false}
+use mathlib.Core.List.{List, _∷_}
 use mathlib.Core.Logic.{_↔_}
-use Rattle.words.specs.Words.{numberOf, partAt}
+use lib.ListN.{getD}
+use Rattle.words.specs.Words.{numberOf, wordsOf, partAt}
 use Rattle.partitions.specs.Map.{Map, numberAt, partitionAt, limit}
 use Rattle.model.specs.declared.Answer.the-variants.{Done}
 use Rattle.model.specs.declared.Command.the-variants.{Read, FrontRead}
 use Rattle.model.specs.Answers.{codeOf}
-use Rattle.model.specs.Session.{sensedAt, readLocked}
+use Rattle.model.specs.Session.{sensedAt}
 use Rattle.model.specs.Lent.{Machine, Primitives}
 use Rattle.model.specs.Step.{answerTo}
 use Rattle.model.specs.Claims.Terms.{Right, Says}
@@ -22,7 +24,7 @@ module _ (map : Map) where
   pub data ReadDenied (m : Machine) (a : ℕ) : Type 0 where
     past : limit map ≤ a → ReadDenied m a
     inLifeCycle : partitionAt map a .kind ≡ kind.LifeCycle → ReadDenied m a
-    locked : a < partitionAt map a .digest → Lockable (partitionAt map a .kind) → readLocked (m .session) (numberAt map a) ≡ true → ReadDenied m a
+    locked : a < partitionAt map a .digest → Lockable (partitionAt map a .kind) → getD (m .session .locks) (numberAt map a) false ≡ true → ReadDenied m a
     secretLocked : {first : ℕ} → a < partitionAt map a .digest → KeyAt (partitionAt map a .kind) first → (sensedAt (m .session) (numberAt map a) ≡ 0 → ⊥)
         → ReadDenied m a
 
@@ -34,6 +36,9 @@ module _ (map : Map) where
 
 module _ (prims : Primitives) (map : Map) where
   pub record Reads : Type 0 where
+    -- "All numbers are little-endian: the lowest 16 bits stand in the lowest word."
+    pub numbers : (word : ℕ) (words : List ℕ) → numberOf (word ∷ words) ≡ word + 65536 * numberOf words
+    pub words : (n x : ℕ) → numberOf (wordsOf n x) ≡ x % 2 ^ (16 * n)
     -- a read on a Ready chip answers 5 where it is denied, else 0
     pub read : (m : Machine) → Right map m → m .session .phase ≡ phase.Ready → (a : ℕ)
         → let answer = answerTo prims map (Read a) m in

@@ -1,5 +1,5 @@
--- Demand 1, its last sentence, as one claim about every machine, whatever is lent: "A refused command leaves every fuse as it was, except that a life
--- cycle request refused after its count has burned its counter words, one stroke more than its record counts."
+-- Demand 1, its last sentence, about every machine, whatever is lent: "A refused command leaves every fuse as it was, except that a life cycle request refused after
+-- its count has burned its counter words, one stroke more than its record counts." What such a request has burned is in Transitions.antt (`spent`, `stopped`).
 use Prim.Native.Nat.{ℕ}
 use mathlib.Core.Path.{_≡_}
 use mathlib.Core.Bool.{Bool, true, false, _||_}
@@ -13,7 +13,7 @@ use Rattle.model.specs.declared.Phase.{Phase}
 use Rattle.model.specs.declared.Phase.the-variants.{Inert, Dead}
 use Rattle.model.specs.declared.Command.{Command}
 use Rattle.model.specs.declared.Command.the-variants.{Read, FrontRead, Transition, PowerUp}
-use Rattle.model.specs.Session.{reasonCode, inPhase}
+use Rattle.model.specs.Session.{reasonCode}
 use Rattle.model.specs.Answers.{codeOf}
 use Rattle.model.specs.Lent.{Machine, Primitives}
 use Rattle.model.specs.Step.{after, answers, machineAfter, answerTo}
@@ -53,7 +53,14 @@ module _ (prims : Primitives) (map : Map) where
         (early code ≡ true → machineAfter prims map x m ≡ m)
         × (early code ≡ false
         → (machineAfter prims map x m .lent .copy ≡ m .lent .copy)
-        × (machineAfter prims map x m .session ≡ inPhase (phaseAfter code) (m .session))
+        × (machineAfter prims map x m .session
+        ≡ record {
+          phase = phaseAfter code;
+          sensed = m .session .sensed;
+          locks = m .session .locks;
+          state = m .session .state;
+          count = m .session .count;
+        })
         × (code ≡ 0x20 → machineAfter prims map x m .lent .cells ≡ m .lent .cells))
     -- a command that changes something and leaves the phase Dead has answered the reason
     pub deaths : (m : Machine) (x : Command) (reason : Reason) → (machineAfter prims map x m ≡ m → ⊥)

@@ -1,20 +1,21 @@
 -- Sensing: what a power-up finds, and that it stays until the next.
 use Prim.Native.Nat.{ℕ, _/_}
 use mathlib.Core.Path.{_≡_}
-use mathlib.Core.Bool.{true}
+use mathlib.Core.Bool.{true, false}
 use mathlib.Core.List.{List, [], _∷_, _++_}
 use mathlib.Core.Option.{none}
 use lib.Dec.{eqb}
+use lib.ListN.{replicate}
 use Rattle.basics.specs.Choice.{if_then_else_}
 use Rattle.basics.specs.Range.{listed}
-use Rattle.partitions.specs.Map.{Map, rightsOf, numberAt, partition, partitionAt, limit, numberOfKind}
+use Rattle.partitions.specs.Map.{Map, numberAt, partition, partitionAt, limit, numberOfKind}
 use Rattle.life_cycle.specs.declared.LifeCycle.the-variants.{Valid}
-use Rattle.model.specs.declared.Phase.the-variants.{Dead}
+use Rattle.model.specs.declared.Phase.the-variants.{Off, Dead}
 use Rattle.model.specs.declared.Answer.the-variants.{Done}
 use Rattle.model.specs.declared.Command.{Command}
 use Rattle.model.specs.declared.Command.the-variants.{FrontRead, PowerUp}
 use Rattle.model.specs.Answers.{codeOf}
-use Rattle.model.specs.Session.{noDigests, noLocks, isReady}
+use Rattle.model.specs.Session.{freshSession, isReady}
 use Rattle.model.specs.Lent.{Machine, Primitives}
 use Rattle.model.specs.Commands.{granule, storedDigest}
 use Rattle.model.specs.PowerUp.{digests, firstFailing, lifeCycleIn, copyWord}
@@ -45,6 +46,8 @@ module _ (prims : Primitives) (map : Map) where
     pub locked : (n : ℕ) → Digested map n → (storedDigest (partition map n) c₀ ≡ 0 → ⊥) → SamePartition map n c₀ (m .lent .cells)
 
   pub record Sensing : Type 0 where
+    -- "A fresh record is Off, all else zero."
+    pub fresh : freshSession ≡ record { phase = Off; sensed = replicate 10 0; locks = replicate 10 false; state = 0; count = 0 }
     -- "Cells and sensed copy are separate lent buffers": what a power-up latched stays until the next
     pub since : (m : Machine) → Right map m → (l₀ l₁ : List Command) → NoPowerUp l₁
         → let m₁ = after prims map (l₀ ++ PowerUp ∷ l₁) m in
@@ -53,9 +56,9 @@ module _ (prims : Primitives) (map : Map) where
     pub fronts : (m : Machine) → Right map m → (l₀ l₁ : List Command) → NoPowerUp l₁ → (a value : ℕ)
         → answerTo prims map (FrontRead a) (after prims map (l₀ ++ PowerUp ∷ l₁) m) ≡ Done value
         → value ≡ granule (partitionAt map a) (after prims map l₀ m .lent .cells) a
-    -- once a power-up has found a partition with front reads (the first of them begins with the DEVICE_ID) locked, every front read of it that ever
-    -- answers 0 answers the words that were stored then
-    pub device : (m : Machine) → Right map m → (n : ℕ) → Digested map n → rightsOf (partition map n .kind) .front ≡ true → (l₁ l₂ : List Command)
+    -- once a power-up has found a partition locked (HW_CFG begins with the DEVICE_ID), every front read of it that ever answers 0 answers the words that were
+    -- stored then
+    pub device : (m : Machine) → Right map m → (n : ℕ) → Digested map n → (l₁ l₂ : List Command)
         → (storedDigest (partition map n) (after prims map l₁ m .lent .cells) ≡ 0 → ⊥)
         → (a value : ℕ) → numberAt map a ≡ n → answerTo prims map (FrontRead a) (after prims map (l₁ ++ PowerUp ∷ l₂) m) ≡ Done value
         → value ≡ granule (partition map n) (after prims map l₁ m .lent .cells) a
@@ -63,7 +66,7 @@ module _ (prims : Primitives) (map : Map) where
     pub unsensed : (m : Machine) (l : List Command) → Quiet l
         → (after prims map l m .lent .copy ≡ m .lent .copy) × (after prims map l m .session .sensed ≡ m .session .sensed)
     -- "Clears read locks."
-    pub cleared : (m : Machine) → Right map m → machineAfter prims map PowerUp m .session .locks ≡ noLocks
+    pub cleared : (m : Machine) → Right map m → machineAfter prims map PowerUp m .session .locks ≡ replicate 10 false
     -- "A 6 or 7 here sets the copy to all zero, and sensed digests, state and count to zero"; "and Dead 6", "and Dead 7"; no cell changes
     pub failed : (m : Machine) → Right map m
         → let code = codeOf (answerTo prims map PowerUp m) in
@@ -73,8 +76,8 @@ module _ (prims : Primitives) (map : Map) where
           lent = record { cells = m .lent .cells; copy = listed (λ j. 0) 0 (limit map / 2); constants = m .lent .constants };
           session = record {
             phase = Dead (if eqb code 0x06 then reason.DigestFailed else reason.LifeCycleFailed);
-            sensed = noDigests;
-            locks = noLocks;
+            sensed = replicate 10 0;
+            locks = replicate 10 false;
             state = 0;
             count = 0;
           };

@@ -1,5 +1,5 @@
 -- Tokens, end to end: the hash that was written, scrambled, and locked is what a given token is compared with.
-use Prim.Native.Nat.{ℕ, _+_, _*_, _/_, _^_, _<_}
+use Prim.Native.Nat.{ℕ, _+_, _*_, _/_, _^_, _≤_, _<_}
 use mathlib.Core.Path.{_≡_}
 use mathlib.Core.Bool.{Bool, true}
 use mathlib.Core.List.{List, _∷_, _++_}
@@ -33,6 +33,10 @@ module _ (prims : Primitives) (map : Map) where
     pub highHalf : partAt cells (partition map (numberOfKind map k) .start / 2 + offset + 4) 4 ≡ wordsOf 4 (prims .encrypt (eightFrom constants first) high)
 
   pub record Tokens : Type 0 where
+    -- on every fit map the sixteen bytes of a stored token are data of a partition of that kind
+    pub places : {token : Token} {k : Kind} {first offset : ℕ} → TokenAt token k first offset
+        → let p = partition map (numberOfKind map k) in
+        (p .kind ≡ k) × (p .start / 2 + offset + 8 ≤ p .digest / 2)
     -- "The stored token is that in the sensed copy"; "hashes it .. The hash is compared" (request Four): where a power-up found it so, every comparison until the next
     -- is with this hash of 128 bits
     pub compared : (m : Machine) → Right map m → (l₀ l₁ : List Command) → NoPowerUp l₁

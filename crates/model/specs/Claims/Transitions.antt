@@ -2,8 +2,8 @@
 use Prim.Native.Nat.{ℕ, suc, _+_, _*_, _/_, _^_, _≤_, _<_}
 use mathlib.Core.Path.{_≡_}
 use mathlib.Core.Bool.{Bool, true, false, _||_}
-use mathlib.Core.List.{List, _∷_, _++_}
-use mathlib.Core.Logic.{_↔_}
+use mathlib.Core.List.{List, [], _∷_, _++_}
+use mathlib.Core.Logic.{_↔_, _⊎_}
 use mathlib.Core.Option.{none}
 use lib.Dec.{eqb}
 use Rattle.basics.specs.Choice.{if_then_else_}
@@ -20,14 +20,15 @@ use Rattle.life_cycle.specs.declared.Token.the-variants.{Nothing, RawUnlock, Te
 use Rattle.life_cycle.specs.Words.{counterWords, stateWords}
 use Rattle.life_cycle.specs.Transitions.{transition}
 use Rattle.life_cycle.specs.Constants.{validConstants}
+use Rattle.model.specs.declared.Phase.the-variants as phase
 use Rattle.model.specs.declared.Command.{Command}
 use Rattle.model.specs.declared.Command.the-variants.{Transition, PowerUp}
 use Rattle.model.specs.Answers.{codeOf, valueOf}
 use Rattle.model.specs.Session.{isReady, sensedAt}
 use Rattle.model.specs.Lent.{Machine, Primitives, rightLengths}
-use Rattle.model.specs.Commands.{lifeCycleRule, tokenKind, tokenOffset, storedToken, counterAt, stateAt}
+use Rattle.model.specs.Commands.{lifeCycleRule, tokenKind, storedToken, counterAt, stateAt}
 use Rattle.model.specs.PowerUp.{verdictOf, lifeCycleIn}
-use Rattle.model.specs.Step.{after, machineAfter, answerTo}
+use Rattle.model.specs.Step.{step, after, machineAfter, answerTo}
 use Rattle.model.specs.Claims.Terms.{Right, Says, Put, NoPowerUp}
 use Rattle.model.specs.Claims.Numbers.{Agrees, eightFrom}
 use Rattle.model.specs.Claims.Refusals.{early}
@@ -45,11 +46,6 @@ pub data Course (x : LifeCycle) : LifeCycle → Type 0 where
   spends : {state count : ℕ} → Course x (Valid state count) → Course x (Valid state (suc count))
   moves : {state count target : ℕ} {token : Token} → Course x (Valid state count) → transition state target ≡ entry.Allowed token
       → Course x (Valid target (suc count))
-
--- the place of a stored token: a partition of its kind, and sixteen bytes of that partition's data
-pub record StoredAt (map : Map) (token : Token) : Type 0 where
-  pub isKind : partition map (numberOfKind map (tokenKind token)) .kind ≡ tokenKind token
-  pub inData : partition map (numberOfKind map (tokenKind token)) .start / 2 + tokenOffset token + 8 ≤ partition map (numberOfKind map (tokenKind token)) .digest / 2
 
 module _ (prims : Primitives) (map : Map) where
   -- "the 24 counter words of one stroke more than the record's count", and with them "the 20 state words" of a target, which follow
@@ -150,6 +146,21 @@ module _ (prims : Primitives) (map : Map) where
         × ((code ≡ 0x22) ↔ Unlocked m target)
         × ((code ≡ 0x23) ↔ Asked m target given false)
         × ((code ≡ 0x00) ↔ Asked m target given true)))
+    -- 7 for the record: "or state or count in the record above 20 or 24 (transition only)"
+    pub records : (m : Machine) → Right map m → m .session .phase ≡ phase.Ready → (target high low : ℕ)
+        → Says 0x07 0 (answerTo prims map (Transition target high low) m) ↔ ((20 < m .session .state) ⊎ (24 < m .session .count))
+    -- "The value is 0 unless stated."
+    pub values : (m : Machine) (target high low : ℕ)
+        → let answer = answerTo prims map (Transition target high low) m in
+        codeOf answer ≡ 0x00 → valueOf answer ≡ 0
+    -- "A token comparison is the test behind 0x23, its result whether the tokens agree.": none with no token, else one; none before 0x23
+    pub comparisons : (m : Machine) (target high low : ℕ)
+        → let s = step prims map (Transition target high low) m in
+        let code = codeOf (s .result .answer) in
+        (code ≡ 0x23 → s .compared ≡ false ∷ [])
+        × (code ≡ 0x00 → transition (m .session .state) target ≡ entry.Allowed Nothing → s .compared ≡ [])
+        × (code ≡ 0x00 → (transition (m .session .state) target ≡ entry.Allowed Nothing → ⊥) → s .compared ≡ true ∷ [])
+        × ((code ≡ 0x23 → ⊥) → (code ≡ 0x00 → ⊥) → (code ≡ 0x04 → ⊥) → s .compared ≡ [])
     -- a transition that answers 0 was given the token that the table asks for, by its hash, and one that answers 0x23 another, on any machine
     pub tokens : (m : Machine) (target high low : ℕ)
         → let given = high * 2 ^ 64 + low in
@@ -172,8 +183,6 @@ module _ (prims : Primitives) (map : Map) where
         → Course (lifeCycleIn map (after prims map (PowerUp ∷ l₁) m .lent)) (lifeCycleIn map (after prims map (PowerUp ∷ l₁ ++ l₂) m .lent))
     -- and the stroke count never falls
     pub counts : (s n t k : ℕ) → Course (Valid s n) (Valid t k) → n ≤ k
-    -- on every fit map the stored tokens have their places
-    pub places : (token : Token) → StoredAt map token
 
 -- "SECRET0 (TEST_UNLOCK, TEST_EXIT, 16 bytes each)", "SECRET2 (RMA token 16, two root key shares 32 each)", and in Map 2 the same items in the same order: at which
 -- byte of the copy each token stands, and the number of the partition whose lock it asks for
