@@ -1,6 +1,6 @@
 -- The token comparisons of a transition. The idea: an act compares once at most, and the code of its answer tells whether it did and what came of it.
-use mathlib.Core.Path.{_≡_, refl, sym, ap, _∙_}
-use mathlib.Core.Bool.{Bool, true, false, not}
+use mathlib.Core.Path.{_≡_, refl}
+use mathlib.Core.Bool.{Bool, true, false}
 use mathlib.Core.List.{List, [], _∷_}
 use Prim.Native.Nat.{ℕ, suc, _+_, _*_, _^_}
 use native.Mathlib.Omega.{arith}
@@ -16,12 +16,11 @@ use Rattle.life_cycle.specs.declared.Entry.{Entry}
 use Rattle.life_cycle.specs.declared.Entry.the-variants.{Allowed, Forbidden}
 use Rattle.life_cycle.specs.Words.{counterWords, stateWords}
 use Rattle.life_cycle.specs.Transitions.{transition}
-use Rattle.model.specs.declared.Answer.{Answer}
 use Rattle.model.specs.declared.Answer.the-variants.{TokenDiffers}
 use Rattle.model.specs.declared.Command.the-variants.{Transition}
 use Rattle.model.specs.Answers.{codeOf}
 use Rattle.model.specs.Lent.{Machine, Primitives, rawUnlockHash}
-use Rattle.model.specs.Acts.{Turn, halt, Act, say, compare, Performed, perform, noting}
+use Rattle.model.specs.Acts.{halt, Act, say, compare, Performed, perform, noting}
 use Rattle.model.specs.Commands.{lifeCycleRule, counterAt, stateAt, moveAct, lockedTokenAct, tokenAct, entryAct, transitionAct, commandAct, readyAct, hashesTo, storedToken}
 use Rattle.model.specs.Step.{Step, unchanged, performed, act, obey, step}
 use Rattle.model.specs.Claims.Refusals.{judged}

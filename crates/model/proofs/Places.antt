@@ -7,13 +7,13 @@ use Prim.Native.Nat.{ℕ, _+_, _*_, _/_, _≤_, _<_}
 use native.Mathlib.Omega.{arith}
 use borrow.Author.Tests.{le-leb, lt-leb}
 use Rattle.partitions.specs.Fitness.{fit}
-use Rattle.partitions.specs.declared.Kind.the-variants as kind
 use Rattle.partitions.specs.Map.{Map, rightsOf, numberAt, partitionAt, limit, inDigest, firstWord, wordCount}
 use Rattle.partitions.proofs.Map.{inside, only}
 use Rattle.partitions.proofs.Granules.{by-granule, granule-digest, granule-plain, granule-scrambled, size-words}
 use Rattle.model.specs.Claims.Numbers.{KeyAt, Plain}
 use Rattle.model.specs.Claims.Places.{Within, Places}
 use Rattle.model.proofs.KindNames.{keyed-scrambled, plain-not-scrambled}
+use Rattle.partitions.specs.declared.Kind.the-variants as kind
 
 module _ (map : Map) (F : fit map ≡ true) where
   ranges : (a n : ℕ) → a < limit map → (numberAt map a ≡ n) ↔ Within map n a

@@ -27,7 +27,6 @@ use Rattle.partitions.proofs.Granules.{granule-scrambled, size-words}
 use Rattle.life_cycle.specs.declared.LifeCycle.{LifeCycle}
 use Rattle.life_cycle.specs.declared.LifeCycle.the-variants.{Valid, Invalid}
 use Rattle.life_cycle.proofs.Decoding.{decoded-says, decoded-valid}
-use Rattle.model.specs.declared.Phase.the-variants as phase
 use Rattle.model.specs.declared.Command.the-variants.{PowerUp}
 use Rattle.model.specs.Answers.{codeOf}
 use Rattle.model.specs.Session.{sensedAt}
@@ -41,6 +40,7 @@ use Rattle.model.specs.Claims.PowerUps.{Fails, FirstFails, Encodes, Latc
 use Rattle.model.proofs.KindNames.{Keyed, keyed-scrambled, hardware-kind, kind-hardware, lockable-kind, scrambled-keyed, key-is}
 use Rattle.model.proofs.Steps.{step-up, step-constants, step-both, obeys-act}
 use Rattle.model.proofs.Since.{first-since, since-sensed}
+use Rattle.model.specs.declared.Phase.the-variants as phase
 use Rattle.partitions.specs.declared.Kind.the-variants as kind
 
 -- ---- the first partition that fails

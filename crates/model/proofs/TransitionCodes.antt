@@ -21,7 +21,6 @@ use Rattle.life_cycle.specs.declared.Entry.the-variants.{Allowed, Forbidden}
 use Rattle.life_cycle.specs.Words.{stateWords}
 use Rattle.life_cycle.specs.Transitions.{transition}
 use Rattle.life_cycle.proofs.Encoding.{counter-length}
-use Rattle.model.specs.declared.Phase.the-variants as phase
 use Rattle.model.specs.declared.Answer.{Answer}
 use Rattle.model.specs.declared.Answer.the-variants.{NotReady}
 use Rattle.model.specs.declared.Command.the-variants.{Transition}
@@ -36,6 +35,7 @@ use Rattle.model.specs.Claims.Refusals.{early}
 use Rattle.model.specs.Claims.Transitions.{Stops, counterRefused, stateRefused, strokeWords, Compared, Asked, strokeOnly, Fair, Unlocked, testUnlock, testExit, rma, Stored}
 use Rattle.model.proofs.Steps.{step-obeys}
 use Rattle.model.proofs.TransitionEnds.{ends, struck, move, Ending, unknownTarget, used, counterStops, notInTable, tokenNotLocked, tokenDiffers, stateStops, moved, Room, step-ends}
+use Rattle.model.specs.declared.Phase.the-variants as phase
 use Rattle.partitions.specs.declared.Kind.the-variants as kind
 use Rattle.words.specs.declared.Programmed.the-variants as programmed
 

@@ -13,7 +13,6 @@ use Rattle.words.specs.declared.Rule.the-variants.{KeepBits}
 use Rattle.words.specs.Words.{wordsOf, partAt}
 use Rattle.words.specs.Programming.{losesBit, Lowest}
 use Rattle.partitions.specs.declared.Kind.{Kind}
-use Rattle.partitions.specs.declared.Kind.the-variants as kind
 use Rattle.partitions.specs.Map.{partitionAt, firstWord, wordCount}
 use Rattle.partitions.specs.Map2.{map2}
 use Rattle.partitions.proofs.Maps.{map2-fit}
@@ -34,6 +33,7 @@ use Rattle.model.proofs.Everything.{everything}
 use Rattle.model.proofs.ToyChip.{toy}
 use Rattle.model.proofs.Theorems.{claims}
 use Rattle.model_examples.proofs.Examples.{toy-cipher, toy-digest}
+use Rattle.partitions.specs.declared.Kind.the-variants as kind
 use Rattle.model.specs.Claims.Demand3 as demand
 
 -- the chip with these cells, switched off

@@ -3,9 +3,9 @@ use Prim.Native.Nat.{ℕ, _+_, _*_, _/_, _≤_, _<_}
 use mathlib.Core.Path.{_≡_}
 use mathlib.Core.Logic.{_↔_}
 use lib.ListN.{length}
-use Rattle.partitions.specs.declared.Kind.the-variants as kind
 use Rattle.partitions.specs.Map.{Map, numberAt, partition, partitionAt, limit, firstWord, wordCount}
 use Rattle.model.specs.Claims.Numbers.{KeyAt, Plain}
+use Rattle.partitions.specs.declared.Kind.the-variants as kind
 
 -- the address is in partition n
 pub record Within (map : Map) (n a : ℕ) : Type 0 where

@@ -8,7 +8,6 @@ use lib.ListN.{length, getD}
 use Rattle.words.specs.Words.{numberOf, wordsOf, partAt}
 use Rattle.partitions.specs.Map.{Map, partition, partitionAt, limit, numberOfKind}
 use Rattle.life_cycle.specs.Words.{counterWords, stateWords}
-use Rattle.model.specs.declared.Phase.the-variants as phase
 use Rattle.model.specs.declared.Command.{Command}
 use Rattle.model.specs.declared.Command.the-variants.{PowerUp}
 use Rattle.model.specs.Answers.{codeOf}
@@ -17,6 +16,7 @@ use Rattle.model.specs.Lent.{Lent, Machine, Primitives}
 use Rattle.model.specs.Step.{step, machineAfter, answerTo}
 use Rattle.model.specs.Claims.Terms.{Right, Digested, Says, notPowerUp}
 use Rattle.model.specs.Claims.Numbers.{KeyAt, Hardware, Lockable, eightFrom, digestIn, digestOf}
+use Rattle.model.specs.declared.Phase.the-variants as phase
 use Rattle.partitions.specs.declared.Kind.the-variants as kind
 
 module _ (prims : Primitives) (map : Map) where

@@ -20,7 +20,6 @@ use Rattle.life_cycle.specs.declared.Token.the-variants.{Nothing, RawUnlock, Te
 use Rattle.life_cycle.specs.Words.{counterWords, stateWords}
 use Rattle.life_cycle.specs.Transitions.{transition}
 use Rattle.life_cycle.specs.Constants.{validConstants}
-use Rattle.model.specs.declared.Phase.the-variants as phase
 use Rattle.model.specs.declared.Command.{Command}
 use Rattle.model.specs.declared.Command.the-variants.{Transition, PowerUp}
 use Rattle.model.specs.Answers.{codeOf, valueOf}
@@ -32,6 +31,7 @@ use Rattle.model.specs.Step.{step, after, machineAfter, answerTo}
 use Rattle.model.specs.Claims.Terms.{Right, Says, Put, NoPowerUp}
 use Rattle.model.specs.Claims.Numbers.{Agrees, eightFrom}
 use Rattle.model.specs.Claims.Refusals.{early}
+use Rattle.model.specs.declared.Phase.the-variants as phase
 use Rattle.partitions.specs.declared.Kind.the-variants as kind
 use Rattle.words.specs.declared.Programmed.the-variants as programmed
 use Rattle.life_cycle.specs.declared.Entry.the-variants as entry
