@@ -1,5 +1,5 @@
--- No digest fails silently. The idea: a check that passed fails after a write to the partition's data alone; such a write is allowed where the sensed digest is
--- zero, and it spoils where the stored one is not: then a digest command put it there since the last power-up.
+-- What a failed digest check was caused by. The idea: a check that passed fails after a write to the partition's data alone; such a write is allowed where the sensed digest
+-- is zero, and the check fails where the stored one is not: then a digest command put it there since the last power-up.
 use mathlib.Core.Path.{_≡_, refl, sym, ap, subst, _∙_}
 use mathlib.Core.Bool.{Bool, true, false, _&&_}
 use mathlib.Core.List.{List, [], _∷_, _++_}
@@ -58,19 +58,19 @@ write-only prims map m a value =
     record { ready = not-false _ r; open? = not-locked _ _ u; soft = h })
 
 -- an act turns no phase Ready, and leaves what is sensed
-step-calm : (prims : Primitives) (map : Map) (n : ℕ) (x : Command) (m : Machine) → notPowerUp x
+step-leaves : (prims : Primitives) (map : Map) (n : ℕ) (x : Command) (m : Machine) → notPowerUp x
     → (isReady (machineAfter prims map x m .session .phase) ≡ true → isReady (m .session .phase) ≡ true) × (sensedAt (machineAfter prims map x m .session) n ≡ sensedAt (m .session) n)
 unfolding unchanged act performed sensedAt
-step-calm prims map n x m u =
+step-leaves prims map n x m u =
     step-both prims map
     (λ (s : Step). (isReady (s .result .machine .session .phase) ≡ true → isReady (m .session .phase) ≡ true) × (sensedAt (s .result .machine .session) n ≡ sensedAt (m .session) n)) x m
     (λ answer e. ((λ q. q), refl))
     (rw (obeys-act prims map x m (no-power-up prims map x u)) ((λ q. turned-ready _ (m .session) q), ap (λ (d : List ℕ). getD d n 0) (turned-sensed _ (m .session))))
 
-felt-stored : (prims : Primitives) (map : Map) (F : fit map ≡ true) (n : ℕ) → Digested map n → (m : Machine) → Right map m
+sensed-as-stored : (prims : Primitives) (map : Map) (F : fit map ≡ true) (n : ℕ) → Digested map n → (m : Machine) → Right map m
     → isReady (machineAfter prims map PowerUp m .session .phase) ≡ true → sensedAt (machineAfter prims map PowerUp m .session) n ≡ storedDigest (partition map n) (m .lent .cells)
 unfolding sensedAt
-felt-stored prims map F n D m r e =
+sensed-as-stored prims map F n D m r e =
     ap (λ (d : List ℕ). getD d n 0) (up-held prims map F m r .holds e .sensed) ∙ sensed-stored prims map F n D (m .lent)
 
 isDigest : Command → Bool
@@ -102,10 +102,10 @@ module _ (prims : Primitives) (map : Map) (F : fit map ≡ true) (n : ℕ) (D : 
   -- ---- what a command is to the partition
 
   data Class (x : Command) (m : Machine) : Type 0 where
-    seals : {a : ℕ} → x ≡ Digest a → a ≡ p .start → codeOf (answerTo prims map (Digest a) m) ≡ 0x00 → Class x m
-    spoils : {a value : ℕ} → x ≡ Write a value → numberAt map a ≡ n → inDigest (partitionAt map a) a ≡ false → codeOf (answerTo prims map (Write a value) m) ≡ 0x00
+    putsDigest : {a : ℕ} → x ≡ Digest a → a ≡ p .start → codeOf (answerTo prims map (Digest a) m) ≡ 0x00 → Class x m
+    writesData : {a value : ℕ} → x ≡ Write a value → numberAt map a ≡ n → inDigest (partitionAt map a) a ≡ false → codeOf (answerTo prims map (Write a value) m) ≡ 0x00
         → stored (machineAfter prims map x m) ≡ stored m → Class x m
-    powers : x ≡ PowerUp → Class x m
+    powersUp : x ≡ PowerUp → Class x m
     others : notPowerUp x → sparesData map n x (answerTo prims map x m) → stored (machineAfter prims map x m) ≡ stored m → Class x m
 
   -- the stored digest stays, but for a digest command
@@ -120,9 +120,9 @@ module _ (prims : Primitives) (map : Map) (F : fit map ≡ true) (n : ℕ) (D : 
       go y answer e f (puts (writes {a = a} {value = value} q d v)) =
           let w = write-only prims map m a value (rw e at (ap codeOf f)) in
           let b = partition-at map a q in
-          let firm : rightsOf (partitionAt map a .kind) .hardware ≡ true = rw b hard in
-          let deep : inDigest (partitionAt map a) a ≡ true = rw b d in
-          absurd (true-not-false (and-both _ _ firm deep) (w .soft))
+          let hardware : rightsOf (partitionAt map a .kind) .hardware ≡ true = rw b hard in
+          let digest : inDigest (partitionAt map a) a ≡ true = rw b d in
+          absurd (true-not-false (and-both _ _ hardware digest) (w .soft))
       go y answer e f (puts (computes {a = a} {value = value} q v)) = absurd (h a value e q f)
 
   quiet-class : (x : Command) (m : Machine) → Right map m → isDigest x ≡ false → notPowerUp x → sparesData map n x (answerTo prims map x m) → Class x m
@@ -134,14 +134,14 @@ module _ (prims : Primitives) (map : Map) (F : fit map ≡ true) (n : ℕ) (D : 
       let same = keeps-digest (Write a value) m r (λ b v e q f. no-digest refl e) in
       by-cases (eqb (numberAt map a) n)
       (λ t. by-cases (inDigest (partitionAt map a) a) (λ d. others tt (λ i e z. true-not-false d e) same)
-      (λ d. by-cases (eqb (codeOf (answerTo prims map (Write a value) m)) 0x00) (λ z. spoils refl (eqb-true _ _ t) d (eqb-true _ _ z) same)
+      (λ d. by-cases (eqb (codeOf (answerTo prims map (Write a value) m)) 0x00) (λ z. writesData refl (eqb-true _ _ t) d (eqb-true _ _ z) same)
       (λ z. others tt (λ i e q. eqb-false _ _ z q) same)))
       (λ t. others tt (λ i e z. eqb-false _ _ t i) same)
 
   digest-class : (m : Machine) → Right map m → (a : ℕ) → Class (Digest a) m
   digest-class m r a =
       by-cases (eqb a (p .start))
-      (λ t. by-cases (eqb (codeOf (answerTo prims map (Digest a) m)) 0x00) (λ z. seals refl (eqb-true _ _ t) (eqb-true _ _ z))
+      (λ t. by-cases (eqb (codeOf (answerTo prims map (Digest a) m)) 0x00) (λ z. putsDigest refl (eqb-true _ _ t) (eqb-true _ _ z))
       (λ z. others tt tt (keeps-digest (Digest a) m r (λ b v e q f. eqb-false _ _ z (ap codeOf f)))))
       (λ t. others tt tt (keeps-digest (Digest a) m r (λ b v e q f. eqb-false _ _ t (digest-same e ∙ q))))
 
@@ -153,35 +153,35 @@ module _ (prims : Primitives) (map : Map) (F : fit map ≡ true) (n : ℕ) (D : 
   classify (Digest a) m r = digest-class m r a
   classify (ReadLock number) m r = quiet-class (ReadLock number) m r refl tt tt
   classify (Transition target high low) m r = quiet-class (Transition target high low) m r refl tt tt
-  classify PowerUp m r = powers refl
+  classify PowerUp m r = powersUp refl
 
   -- ---- the invariant
 
   -- the partition passes, and a Ready record has sensed the digest that is stored
-  record Good (m : Machine) : Type 0 where
+  record Sensed (m : Machine) : Type 0 where
     holds : Holds m
-    felt : isReady (m .session .phase) ≡ true → sensedAt (m .session) n ≡ stored m
+    sensed : isReady (m .session .phase) ≡ true → sensedAt (m .session) n ≡ stored m
 
   next-holds : (x : Command) (m : Machine) → Right map m → CellsFit m → Holds m → sparesData map n x (answerTo prims map x m) → Holds (machineAfter prims map x m)
   next-holds x m r w h s = rw (step-constants prims map x m) (step-holds prims map F n D hard G x m r w h s)
 
   -- sensed digests stay, but for a power-up
-  next-felt : (x : Command) (m : Machine) → notPowerUp x → Good m → stored (machineAfter prims map x m) ≡ stored m
+  next-sensed : (x : Command) (m : Machine) → notPowerUp x → Sensed m → stored (machineAfter prims map x m) ≡ stored m
       → isReady (machineAfter prims map x m .session .phase) ≡ true → sensedAt (machineAfter prims map x m .session) n ≡ stored (machineAfter prims map x m)
-  next-felt x m u g e r = (calm .1 ∙ g .felt (calm .0 r)) ∙ sym e
+  next-sensed x m u g e r = (leaves .1 ∙ g .sensed (leaves .0 r)) ∙ sym e
     where
-      calm : (isReady (machineAfter prims map x m .session .phase) ≡ true → isReady (m .session .phase) ≡ true) × (sensedAt (machineAfter prims map x m .session) n ≡ sensedAt (m .session) n)
-      calm = step-calm prims map n x m u
+      leaves : (isReady (machineAfter prims map x m .session .phase) ≡ true → isReady (m .session .phase) ≡ true) × (sensedAt (machineAfter prims map x m .session) n ≡ sensedAt (m .session) n)
+      leaves = step-leaves prims map n x m u
 
-  power-good : (m : Machine) → Right map m → Holds m → Good (machineAfter prims map PowerUp m)
-  power-good m r h = record { holds = rw (step-constants prims map PowerUp m, cells) h; felt = sense }
+  power-sensed : (m : Machine) → Right map m → Holds m → Sensed (machineAfter prims map PowerUp m)
+  power-sensed m r h = record { holds = rw (step-constants prims map PowerUp m, cells) h; sensed = as-stored }
     where
       cells : machineAfter prims map PowerUp m .lent .cells ≡ m .lent .cells
       cells = power-ups-refuse prims map m .0
 
-      sense : isReady (machineAfter prims map PowerUp m .session .phase) ≡ true
+      as-stored : isReady (machineAfter prims map PowerUp m .session .phase) ≡ true
           → sensedAt (machineAfter prims map PowerUp m .session) n ≡ storedDigest (partition map n) (machineAfter prims map PowerUp m .lent .cells)
-      sense e = felt-stored prims map F n D m r e ∙ sym (ap (storedDigest (partition map n)) cells)
+      as-stored e = sensed-as-stored prims map F n D m r e ∙ sym (ap (storedDigest (partition map n)) cells)
 
   -- ---- over a list
 
@@ -210,8 +210,8 @@ module _ (prims : Primitives) (map : Map) (F : fit map ≡ true) (n : ℕ) (D : 
     written = unfold after in (f .written);
   }
 
-  spoilt-later : (x : Command) (m : Machine) (l : List Command) → WrittenAfterDigest prims map (machineAfter prims map x m) l n → WrittenAfterDigest prims map m (x ∷ l) n
-  spoilt-later x m l f = record {
+  written-later : (x : Command) (m : Machine) (l : List Command) → WrittenAfterDigest prims map (machineAfter prims map x m) l n → WrittenAfterDigest prims map m (x ∷ l) n
+  written-later x m l f = record {
     before = x ∷ f .before;
     between = f .between;
     behind = f .behind;
@@ -227,8 +227,8 @@ module _ (prims : Primitives) (map : Map) (F : fit map ≡ true) (n : ℕ) (D : 
     written = unfold after in (f .written);
   }
 
-  spoilt-here : (a : ℕ) (m : Machine) (l : List Command) → a ≡ p .start → codeOf (answerTo prims map (Digest a) m) ≡ 0x00 → Found (machineAfter prims map (Digest a) m) l → WrittenAfterDigest prims map m (Digest a ∷ l) n
-  spoilt-here a m l s z f = record {
+  written-here : (a : ℕ) (m : Machine) (l : List Command) → a ≡ p .start → codeOf (answerTo prims map (Digest a) m) ≡ 0x00 → Found (machineAfter prims map (Digest a) m) l → WrittenAfterDigest prims map m (Digest a ∷ l) n
+  written-here a m l s z f = record {
     before = [];
     between = f .between;
     behind = f .behind;
@@ -248,22 +248,22 @@ module _ (prims : Primitives) (map : Map) (F : fit map ≡ true) (n : ℕ) (D : 
   Fails m = digestHolds prims (m .lent .constants) (m .lent .cells) p ≡ false
 
   -- a write that is allowed finds the digest zero, or a digest command put it there
-  spoils-good : (x : Command) (m : Machine) {a value : ℕ} → x ≡ Write a value → numberAt map a ≡ n → codeOf (answerTo prims map (Write a value) m) ≡ 0x00
-      → stored (machineAfter prims map x m) ≡ stored m → notPowerUp x → Good m → Good (machineAfter prims map x m)
-  spoils-good x m {a} {value} e i z same u g =
+  writes-sensed : (x : Command) (m : Machine) {a value : ℕ} → x ≡ Write a value → numberAt map a ≡ n → codeOf (answerTo prims map (Write a value) m) ≡ 0x00
+      → stored (machineAfter prims map x m) ≡ stored m → notPowerUp x → Sensed m → Sensed (machineAfter prims map x m)
+  writes-sensed x m {a} {value} e i z same u g =
       let w = write-only prims map m a value z in
-      let zero : stored m ≡ 0 = sym (g .felt (w .ready)) ∙ rw i at (w .open?) in
-      record { holds = zero-holds prims map F n D _ _ (same ∙ zero); felt = next-felt x m u g same }
+      let zero : stored m ≡ 0 = sym (g .sensed (w .ready)) ∙ rw i at (w .open?) in
+      record { holds = zero-holds prims map F n D _ _ (same ∙ zero); sensed = next-sensed x m u g same }
 
   abbrev From-good : List Command → Type 0
-  From-good l = (m : Machine) → Right map m → CellsFit m → Good m → Fails (after prims map l m) → WrittenAfterDigest prims map m l n
+  From-good l = (m : Machine) → Right map m → CellsFit m → Sensed m → Fails (after prims map l m) → WrittenAfterDigest prims map m l n
 
   abbrev From-holds : List Command → Type 0
   From-holds l = (m : Machine) → Right map m → CellsFit m → Holds m → Fails (after prims map l m) → Found m l ⊎ WrittenAfterDigest prims map m l n
 
-  more-good : (x : Command) (l : List Command) → From-good l → From-holds l → From-good (x ∷ l)
+  more-sensed : (x : Command) (l : List Command) → From-good l → From-holds l → From-good (x ∷ l)
   unfolding after
-  more-good x l f h m r w g fails = go (classify x m r)
+  more-sensed x l f h m r w g fails = go (classify x m r)
     where
       r₁ : Right map (machineAfter prims map x m)
       r₁ = step-right prims map x m r
@@ -271,17 +271,17 @@ module _ (prims : Primitives) (map : Map) (F : fit map ≡ true) (n : ℕ) (D : 
       w₁ : CellsFit (machineAfter prims map x m)
       w₁ = step-small prims map x m r (record { small = w }) .small
 
-      on : Good (machineAfter prims map x m) → WrittenAfterDigest prims map m (x ∷ l) n
-      on g₁ = spoilt-later x m l (f (machineAfter prims map x m) r₁ w₁ g₁ fails)
+      on : Sensed (machineAfter prims map x m) → WrittenAfterDigest prims map m (x ∷ l) n
+      on g₁ = written-later x m l (f (machineAfter prims map x m) r₁ w₁ g₁ fails)
 
       go : Class x m → WrittenAfterDigest prims map m (x ∷ l) n
-      go (seals {a = a} e s z) =
+      go (putsDigest {a = a} e s z) =
           subst (λ (y : Command). WrittenAfterDigest prims map m (y ∷ l) n) (sym e)
-          (⊎-elim (λ q. spoilt-here a m l s z q) (λ q. spoilt-later (Digest a) m l q)
+          (⊎-elim (λ q. written-here a m l s z q) (λ q. written-later (Digest a) m l q)
           (rw e at (h (machineAfter prims map x m) r₁ w₁ (next-holds x m r w (g .holds) (subst (λ (y : Command). sparesData map n y (answerTo prims map x m)) (sym e) tt)) fails)))
-      go (spoils e i d z same) = on (spoils-good x m e i z same (subst notPowerUp (sym e) tt) g)
-      go (powers e) = on (subst (λ (y : Command). Good (machineAfter prims map y m)) (sym e) (power-good m r (g .holds)))
-      go (others u s same) = on (record { holds = next-holds x m r w (g .holds) s; felt = next-felt x m u g same })
+      go (writesData e i d z same) = on (writes-sensed x m e i z same (subst notPowerUp (sym e) tt) g)
+      go (powersUp e) = on (subst (λ (y : Command). Sensed (machineAfter prims map y m)) (sym e) (power-sensed m r (g .holds)))
+      go (others u s same) = on (record { holds = next-holds x m r w (g .holds) s; sensed = next-sensed x m u g same })
 
   more-holds : (x : Command) (l : List Command) → From-good l → From-holds l → From-holds (x ∷ l)
   unfolding after
@@ -294,11 +294,11 @@ module _ (prims : Primitives) (map : Map) (F : fit map ≡ true) (n : ℕ) (D : 
       w₁ = step-small prims map x m r (record { small = w }) .small
 
       on : notPowerUp x → Holds (machineAfter prims map x m) → Found m (x ∷ l) ⊎ WrittenAfterDigest prims map m (x ∷ l) n
-      on u k₁ = ⊎-elim (λ q. inl (found-later x m l u q)) (λ q. inr (spoilt-later x m l q)) (h (machineAfter prims map x m) r₁ w₁ k₁ fails)
+      on u k₁ = ⊎-elim (λ q. inl (found-later x m l u q)) (λ q. inr (written-later x m l q)) (h (machineAfter prims map x m) r₁ w₁ k₁ fails)
 
       go : Class x m → Found m (x ∷ l) ⊎ WrittenAfterDigest prims map m (x ∷ l) n
-      go (seals e s z) = on (subst notPowerUp (sym e) tt) (next-holds x m r w k (subst (λ (y : Command). sparesData map n y (answerTo prims map x m)) (sym e) tt))
-      go (spoils {a = a} {value = value} e i d z same) = inl (record {
+      go (putsDigest e s z) = on (subst notPowerUp (sym e) tt) (next-holds x m r w k (subst (λ (y : Command). sparesData map n y (answerTo prims map x m)) (sym e) tt))
+      go (writesData {a = a} {value = value} e i d z same) = inl (record {
         between = [];
         behind = l;
         address = a;
@@ -309,13 +309,13 @@ module _ (prims : Primitives) (map : Map) (F : fit map ≡ true) (n : ℕ) (D : 
         isData = d;
         written = z;
       })
-      go (powers e) = inr (spoilt-later x m l (f (machineAfter prims map x m) r₁ w₁ (subst (λ (y : Command). Good (machineAfter prims map y m)) (sym e) (power-good m r k)) fails))
+      go (powersUp e) = inr (written-later x m l (f (machineAfter prims map x m) r₁ w₁ (subst (λ (y : Command). Sensed (machineAfter prims map y m)) (sym e) (power-sensed m r k)) fails))
       go (others u s same) = on u (next-holds x m r w k s)
 
   both : (l : List Command) → From-good l × From-holds l
   unfolding after
   both [] = ((λ m r w g fails. absurd (true-not-false (g .holds) fails)), λ m r w k fails. absurd (true-not-false k fails))
-  both (x ∷ l) = let q = both l in (more-good x l (q .0) (q .1), more-holds x l (q .0) (q .1))
+  both (x ∷ l) = let q = both l in (more-sensed x l (q .0) (q .1), more-holds x l (q .0) (q .1))
 
 -- ---- the theorem
 
@@ -332,7 +332,7 @@ module _ (prims : Primitives) (map : Map) (F : fit map ≡ true) where
       let D : Digested map n = record { known = f .known; direct = hardware-direct _ hard } in
       let first : digestHolds prims (m .lent .constants) (m .lent .cells) (partition map n) ≡ true =
       none-fails prims (m .lent .constants) (m .lent .cells) 0 map (rw (step-constants prims map PowerUp m) at (first-since prims map F m r z .checked)) n in
-      both prims map F n D hard G l .0 m₀ r₀ (step-small prims map PowerUp m r (record { small = w }) .small) (power-good prims map F n D hard G m r first)
+      both prims map F n D hard G l .0 m₀ r₀ (step-small prims map PowerUp m r (record { small = w }) .small) (power-sensed prims map F n D hard G m r first)
       (fails-failed prims map (m₁ .lent) n f)
 
   -- from a digest command on, while its data are not written

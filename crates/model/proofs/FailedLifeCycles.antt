@@ -1,4 +1,4 @@
--- A 7 is never silent. The idea: a command leaves what the life cycle words decode to, or it is a transition that spent a stroke; that one leaves the state, or
+-- What a failed life cycle check was caused by. The idea: a command leaves what the life cycle words decode to, or it is a transition that spent a stroke; that one leaves the state, or
 -- puts its target there, and its target is SCRAP or not.
 use mathlib.Core.Path.{_≡_, refl, sym, ap, _∙_}
 use mathlib.Core.Bool.{true, false}
@@ -34,30 +34,30 @@ valid-state e = cc
 
 module _ (prims : Primitives) (map : Map) (F : fit map ≡ true) where
   -- the life cycle words decode to a state that is not SCRAP
-  record Well (m : Machine) : Type 0 where
+  record Working (m : Machine) : Type 0 where
     state : ℕ
     count : ℕ
     decodes : lifeCycleIn map (m .lent) ≡ Valid state count
     notScrap : state ≡ 20 → ⊥
 
-  well-same : (m m′ : Machine) → lifeCycleIn map (m′ .lent) ≡ lifeCycleIn map (m .lent) → Well m → Well m′
-  well-same m m′ e w = record { state = w .state; count = w .count; decodes = e ∙ w .decodes; notScrap = w .notScrap }
+  working-same : (m m′ : Machine) → lifeCycleIn map (m′ .lent) ≡ lifeCycleIn map (m .lent) → Working m → Working m′
+  working-same m m′ e w = record { state = w .state; count = w .count; decodes = e ∙ w .decodes; notScrap = w .notScrap }
 
   -- a command that is no transition
-  others-well : (x : Command) (m : Machine) → isTransition x ≡ false → Well m → Well (machineAfter prims map x m)
+  others-working : (x : Command) (m : Machine) → isTransition x ≡ false → Working m → Working (machineAfter prims map x m)
   unfolding unchanged
-  others-well x m n w =
-      step-all prims map (λ (s : Step). Well (s .result .machine)) x m (λ answer e. w) (well-same m _ (up-life prims map F m) w)
-      (well-same m _ (others-life prims map F x m n) w)
+  others-working x m n w =
+      step-all prims map (λ (s : Step). Working (s .result .machine)) x m (λ answer e. w) (working-same m _ (up-life prims map F m) w)
+      (working-same m _ (others-life prims map F x m n) w)
 
   -- a transition leaves it so, or went to SCRAP
-  transition-well : (m : Machine) → Reached prims map F m → Well m → (target high low : ℕ)
-      → Well (machineAfter prims map (Transition target high low) m) ⊎ ((target ≡ 20) × (codeOf (answerTo prims map (Transition target high low) m) ≡ 0x00))
-  transition-well m h w target high low = go (transition-life prims map F m (h .held .right) (recorded prims map F m h) target high low)
+  transition-working : (m : Machine) → Reached prims map F m → Working m → (target high low : ℕ)
+      → Working (machineAfter prims map (Transition target high low) m) ⊎ ((target ≡ 20) × (codeOf (answerTo prims map (Transition target high low) m) ≡ 0x00))
+  transition-working m h w target high low = go (transition-life prims map F m (h .held .right) (recorded prims map F m h) target high low)
     where
       go : {code : ℕ} → LifeAfter prims map m target code (lifeCycleIn map (machineAfter prims map (Transition target high low) m .lent))
-          → Well (machineAfter prims map (Transition target high low) m) ⊎ ((target ≡ 20) × (code ≡ 0x00))
-      go (kept s z f e) = inl (well-same m (machineAfter prims map (Transition target high low) m) e w)
+          → Working (machineAfter prims map (Transition target high low) m) ⊎ ((target ≡ 20) × (code ≡ 0x00))
+      go (kept s z f e) = inl (working-same m (machineAfter prims map (Transition target high low) m) e w)
       go (spent s v e) = inl (record {
         state = m .session .state;
         count = suc (m .session .count);
@@ -90,34 +90,34 @@ module _ (prims : Primitives) (map : Map) (F : fit map ≡ true) where
     moved = unfold after in (rw e at z);
   }
 
-  -- a power-up of a chip that is well does not answer 7
-  woken-well : (v : Option ℕ) (life : LifeCycle) (state count : ℕ) → life ≡ Valid state count → (state ≡ 20 → ⊥) → codeOf (wokenAnswer (wakingOf v life)) ≡ 0x07 → ⊥
+  -- a power-up of a chip whose life cycle works does not answer 7
+  power-up-working : (v : Option ℕ) (life : LifeCycle) (state count : ℕ) → life ≡ Valid state count → (state ≡ 20 → ⊥) → codeOf (wokenAnswer (wakingOf v life)) ≡ 0x07 → ⊥
   unfolding wokenAnswer wakingOf lifeCycleWaking
-  woken-well (some number) life state count e n = λ z. omega arith
-  woken-well none life state count e n = rw (e, lifeCycleWaking) (if-both (λ (a : Waking). codeOf (wokenAnswer a) ≡ 0x07 → ⊥) (eqb state 20) _ _ (λ t z. n (eqb-true _ _ t)) (λ t z. omega arith))
+  power-up-working (some number) life state count e n = λ z. omega arith
+  power-up-working none life state count e n = rw (e, lifeCycleWaking) (if-both (λ (a : Waking). codeOf (wokenAnswer a) ≡ 0x07 → ⊥) (eqb state 20) _ _ (λ t z. n (eqb-true _ _ t)) (λ t z. omega arith))
 
-  well-not-seven : (m : Machine) → Right map m → Well m → codeOf (answerTo prims map PowerUp m) ≡ 0x07 → ⊥
+  working-not-seven : (m : Machine) → Right map m → Working m → codeOf (answerTo prims map PowerUp m) ≡ 0x07 → ⊥
   unfolding powerUp waking
-  well-not-seven m r w = rw (step-up prims map m r, answerTo) (woken-well (verdictOf prims map (m .lent)) (lifeCycleIn map (m .lent)) (w .state) (w .count) (w .decodes) (w .notScrap))
+  working-not-seven m r w = rw (step-up prims map m r, answerTo) (power-up-working (verdictOf prims map (m .lent)) (lifeCycleIn map (m .lent)) (w .state) (w .count) (w .decodes) (w .notScrap))
 
   abbrev Claim : List Command → Machine → Type 0
   Claim l m = codeOf (answerTo prims map PowerUp (after prims map l m)) ≡ 0x07 → Scrapped prims map m l
 
-  more : (x : Command) (l : List Command) (m : Machine) → Reached prims map F m → Well m
-      → (Well (machineAfter prims map x m) → Claim l (machineAfter prims map x m)) → Claim (x ∷ l) m
+  more : (x : Command) (l : List Command) (m : Machine) → Reached prims map F m → Working m
+      → (Working (machineAfter prims map x m) → Claim l (machineAfter prims map x m)) → Claim (x ∷ l) m
   unfolding after isTransition
-  more (Read a) l m h w f z = later (Read a) m l (f (others-well (Read a) m refl w) z)
-  more (Write a value) l m h w f z = later (Write a value) m l (f (others-well (Write a value) m refl w) z)
-  more (FrontRead a) l m h w f z = later (FrontRead a) m l (f (others-well (FrontRead a) m refl w) z)
-  more (Digest a) l m h w f z = later (Digest a) m l (f (others-well (Digest a) m refl w) z)
-  more (ReadLock number) l m h w f z = later (ReadLock number) m l (f (others-well (ReadLock number) m refl w) z)
+  more (Read a) l m h w f z = later (Read a) m l (f (others-working (Read a) m refl w) z)
+  more (Write a value) l m h w f z = later (Write a value) m l (f (others-working (Write a value) m refl w) z)
+  more (FrontRead a) l m h w f z = later (FrontRead a) m l (f (others-working (FrontRead a) m refl w) z)
+  more (Digest a) l m h w f z = later (Digest a) m l (f (others-working (Digest a) m refl w) z)
+  more (ReadLock number) l m h w f z = later (ReadLock number) m l (f (others-working (ReadLock number) m refl w) z)
   more (Transition target high low) l m h w f z =
-      ⊎-elim (λ q. later (Transition target high low) m l (f q z)) (λ q. here m target high low l (q .0) (q .1)) (transition-well m h w target high low)
-  more PowerUp l m h w f z = later PowerUp m l (f (others-well PowerUp m refl w) z)
+      ⊎-elim (λ q. later (Transition target high low) m l (f q z)) (λ q. here m target high low l (q .0) (q .1)) (transition-working m h w target high low)
+  more PowerUp l m h w f z = later PowerUp m l (f (others-working PowerUp m refl w) z)
 
-  run : (l : List Command) (m : Machine) → Reached prims map F m → Well m → Claim l m
+  run : (l : List Command) (m : Machine) → Reached prims map F m → Working m → Claim l m
   unfolding after
-  run [] m h w = λ z. absurd (well-not-seven m (h .held .right) w z)
+  run [] m h w = λ z. absurd (working-not-seven m (h .held .right) w z)
   run (x ∷ l) m h w = more x l m h w (λ w₁. run l (machineAfter prims map x m) (step-reached prims map F x m h) w₁)
 
   pub sevens : (m : Machine) → Right map m → codeOf (answerTo prims map PowerUp m) ≡ 0x00 → (l : List Command)

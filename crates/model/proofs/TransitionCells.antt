@@ -25,7 +25,7 @@ use Rattle.model.specs.Claims.Refusals.{early}
 use Rattle.model.specs.Claims.Transitions.{strokeOnly, strokeWords, moveWords, Stopped, counter, state}
 use Rattle.model.specs.Claims.Terms.{Put}
 use Rattle.model.proofs.Steps.{lengths-of}
-use Rattle.model.proofs.TransitionEnds.{Ending, unknownTarget, used, counterStops, notInTable, tokenNotLocked, tokenDiffers, stateStops, moved, stroke, struck, move, Taken, clash, step-ends}
+use Rattle.model.proofs.TransitionEnds.{Ending, unknownTarget, used, counterStops, notInTable, tokenNotLocked, tokenDiffers, stateStops, moved, stroke, stroke-cells, move, Taken, early-no-stroke, step-ends}
 use Rattle.words.specs.declared.Programmed.the-variants as programmed
 use Rattle.partitions.specs.declared.Kind.the-variants as kind
 
@@ -69,7 +69,7 @@ module _ (prims : Primitives) (map : Map) (m : Machine) (target given : ℕ) whe
   unfolding early strokeOnly
   early-told answer cells e = record {
     used = λ q. absurd (true-not-false e (rw q));
-    spent = λ q. absurd (clash (codeOf answer) e q);
+    spent = λ q. absurd (early-no-stroke (codeOf answer) e q);
     moved = λ q. absurd (true-not-false e (rw q));
     stopped = λ q. absurd (true-not-false e (rw q));
   }
@@ -85,14 +85,14 @@ module _ (prims : Primitives) (map : Map) (F : fit map ≡ true) (m : Machine) (
       omega (arith, lengths-of prims map (m .lent) lengths .0, p .words, p .last)
 
   module _ (target given : ℕ) where
-    put-stroke : Taken prims map m target given → Put lifeCycleRule (counterAt map) (stroke prims map m target given) (m .lent .cells) (struck prims map m target given)
+    put-stroke : Taken prims map m target given → Put lifeCycleRule (counterAt map) (stroke prims map m target given) (m .lent .cells) (stroke-cells prims map m target given)
     put-stroke t = put-words lifeCycleRule (counterAt map) (stroke prims map m target given) (m .lent .cells)
         (omega (arith, life-room, counter-length (m .lent .constants) (suc (m .session .count)))) (t .1)
 
     put-move : Taken prims map m target given
-        → programAnswer lifeCycleRule (struck prims map m target given) (stateAt map) (move prims map m target given) ≡ programmed.Done
+        → programAnswer lifeCycleRule (stroke-cells prims map m target given) (stateAt map) (move prims map m target given) ≡ programmed.Done
         → Put lifeCycleRule (counterAt map) (moveWords prims map m target) (m .lent .cells)
-        (programCells lifeCycleRule (struck prims map m target given) (stateAt map) (move prims map m target given))
+        (programCells lifeCycleRule (stroke-cells prims map m target given) (stateAt map) (move prims map m target given))
     unfolding stateAt
     put-move t e =
         let a = stroke prims map m target given in

@@ -34,7 +34,7 @@ use Rattle.model.specs.Claims.Numbers.{Agrees, eightFrom}
 use Rattle.model.specs.Claims.Refusals.{early}
 use Rattle.model.specs.Claims.Transitions.{Stops, counterRefused, stateRefused, strokeWords, Compared, Asked, strokeOnly, Fair, Unlocked, testUnlock, testExit, rma, Stored}
 use Rattle.model.proofs.Steps.{step-obeys}
-use Rattle.model.proofs.TransitionEnds.{ends, struck, move, Ending, unknownTarget, used, counterStops, notInTable, tokenNotLocked, tokenDiffers, stateStops, moved, Room, step-ends}
+use Rattle.model.proofs.TransitionEnds.{ends, stroke-cells, move, Ending, unknownTarget, used, counterStops, notInTable, tokenNotLocked, tokenDiffers, stateStops, moved, InRange, step-ends}
 use Rattle.model.specs.declared.Phase.the-variants as phase
 use Rattle.partitions.specs.declared.Kind.the-variants as kind
 use Rattle.words.specs.declared.Programmed.the-variants as programmed
@@ -99,16 +99,16 @@ module _ (prims : Primitives) (map : Map) (m : Machine) (target given : ℕ) whe
   asked-due same a = rw (a .allowed) (compared-code (a .token) same (a .compared))
 
   -- which of the three ranges an end lies in
-  data Place (code : ℕ) : Type 0 where
-    past : 20 < target → code ≡ 0x11 → Place code
-    spentAll : target ≤ 20 → 24 ≤ m .session .count → code ≡ 0x20 → Place code
-    within : target ≤ 20 → m .session .count < 24 → (code ≡ 0x11 → ⊥) → (code ≡ 0x20 → ⊥) → ((code ≡ 0x04 → ⊥) → code ≡ due) → Place code
+  data Range (code : ℕ) : Type 0 where
+    past : 20 < target → code ≡ 0x11 → Range code
+    spentAll : target ≤ 20 → 24 ≤ m .session .count → code ≡ 0x20 → Range code
+    within : target ≤ 20 → m .session .count < 24 → (code ≡ 0x11 → ⊥) → (code ≡ 0x20 → ⊥) → ((code ≡ 0x04 → ⊥) → code ≡ due) → Range code
 
-  within-code : {answer answer′ : Answer} → Room prims map m target given → answer ≡ answer′ → eqb (codeOf answer′) 0x11 ≡ false → eqb (codeOf answer′) 0x20 ≡ false
-      → ((codeOf answer′ ≡ 0x04 → ⊥) → codeOf answer′ ≡ due) → Place (codeOf answer)
+  within-code : {answer answer′ : Answer} → InRange prims map m target given → answer ≡ answer′ → eqb (codeOf answer′) 0x11 ≡ false → eqb (codeOf answer′) 0x20 ≡ false
+      → ((codeOf answer′ ≡ 0x04 → ⊥) → codeOf answer′ ≡ due) → Range (codeOf answer)
   within-code r e f g h = rw e (within (r .0) (r .1) (eqb-false _ _ f) (eqb-false _ _ g) h)
 
-  place : {answer : Answer} {cells : List ℕ} → Ending prims map m target given answer cells → Place (codeOf answer)
+  place : {answer : Answer} {cells : List ℕ} → Ending prims map m target given answer cells → Range (codeOf answer)
   unfolding sameCode
   place (unknownTarget h e) = rw e (past h refl)
   place (used l h e f) = rw e (spentAll l h refl)
@@ -127,37 +127,37 @@ module _ (prims : Primitives) (map : Map) (m : Machine) (target given : ℕ) whe
     same : code ≡ 0x00 → Asked prims map m target given true
 
   -- a code that is none of these
-  no-why : {answer answer′ : Answer} → answer ≡ answer′ → strokeOnly (codeOf answer′) ≡ false → eqb (codeOf answer′) 0x00 ≡ false → Causes (codeOf answer)
+  no-causes : {answer answer′ : Answer} → answer ≡ answer′ → strokeOnly (codeOf answer′) ≡ false → eqb (codeOf answer′) 0x00 ≡ false → Causes (codeOf answer)
   unfolding strokeOnly
-  no-why e f g = rw e (record {
+  no-causes e f g = rw e (record {
     no-entry = λ q. absurd (true-not-false (rw q) f);
     no-lock = λ q. absurd (true-not-false (rw q) f);
     other = λ q. absurd (true-not-false (rw q) f);
     same = λ q. absurd (eqb-false _ _ g q);
   })
 
-  why : {answer : Answer} {cells : List ℕ} → Ending prims map m target given answer cells → Causes (codeOf answer)
+  causes : {answer : Answer} {cells : List ℕ} → Ending prims map m target given answer cells → Causes (codeOf answer)
   unfolding strokeOnly
-  why (unknownTarget h e) = no-why e refl refl
-  why (used l h e f) = no-why e refl refl
-  why (counterStops r h e f) = no-why e refl refl
-  why (notInTable t h e f) = rw e (record { no-entry = λ q. h; no-lock = λ q. absurd (omega arith); other = λ q. absurd (omega arith); same = λ q. absurd (omega arith) })
-  why (tokenNotLocked t h e f) = rw e (record { no-entry = λ q. absurd (omega arith); no-lock = λ q. h; other = λ q. absurd (omega arith); same = λ q. absurd (omega arith) })
-  why (tokenDiffers t h e f) = rw e (record { no-entry = λ q. absurd (omega arith); no-lock = λ q. absurd (omega arith); other = λ q. h; same = λ q. absurd (omega arith) })
-  why (stateStops t a h e f) = no-why e refl refl
-  why (moved t h g e f) = rw e (record { no-entry = λ q. absurd (omega arith); no-lock = λ q. absurd (omega arith); other = λ q. absurd (omega arith); same = λ q. h })
+  causes (unknownTarget h e) = no-causes e refl refl
+  causes (used l h e f) = no-causes e refl refl
+  causes (counterStops r h e f) = no-causes e refl refl
+  causes (notInTable t h e f) = rw e (record { no-entry = λ q. h; no-lock = λ q. absurd (omega arith); other = λ q. absurd (omega arith); same = λ q. absurd (omega arith) })
+  causes (tokenNotLocked t h e f) = rw e (record { no-entry = λ q. absurd (omega arith); no-lock = λ q. h; other = λ q. absurd (omega arith); same = λ q. absurd (omega arith) })
+  causes (tokenDiffers t h e f) = rw e (record { no-entry = λ q. absurd (omega arith); no-lock = λ q. absurd (omega arith); other = λ q. h; same = λ q. absurd (omega arith) })
+  causes (stateStops t a h e f) = no-causes e refl refl
+  causes (moved t h g e f) = rw e (record { no-entry = λ q. absurd (omega arith); no-lock = λ q. absurd (omega arith); other = λ q. absurd (omega arith); same = λ q. h })
 
-  past-only : {code : ℕ} → Place code → (code ≡ 0x11) ↔ (20 < target)
+  past-only : {code : ℕ} → Range code → (code ≡ 0x11) ↔ (20 < target)
   past-only (past h e) = ((λ q. h), λ q. e)
   past-only (spentAll l h e) = ((λ q. absurd (omega arith)), λ q. absurd (omega arith))
   past-only (within l r f g h) = ((λ q. absurd (f q)), λ q. absurd (omega arith))
 
-  used-only : {code : ℕ} → m .session .count ≤ 24 → Place code → (code ≡ 0x20) ↔ ((target ≤ 20) × (m .session .count ≡ 24))
+  used-only : {code : ℕ} → m .session .count ≤ 24 → Range code → (code ≡ 0x20) ↔ ((target ≤ 20) × (m .session .count ≡ 24))
   used-only c (past h e) = ((λ q. absurd (omega arith)), λ q. absurd (omega (arith, q .0)))
   used-only c (spentAll l h e) = ((λ q. (l, omega arith)), λ q. e)
   used-only c (within l r f g h) = ((λ q. absurd (g q)), λ q. absurd (omega (arith, q .1)))
 
-  is-due : {code : ℕ} → Place code → target ≤ 20 → m .session .count < 24 → (code ≡ 0x04 → ⊥) → code ≡ due
+  is-due : {code : ℕ} → Range code → target ≤ 20 → m .session .count < 24 → (code ≡ 0x04 → ⊥) → code ≡ due
   is-due (past h e) l c n = absurd (omega arith)
   is-due (spentAll k h e) l c n = absurd (omega arith)
   is-due (within k r f g h) l c n = h n
@@ -165,7 +165,7 @@ module _ (prims : Primitives) (map : Map) (m : Machine) (target given : ℕ) whe
   -- ---- when it stops with a 4
 
   -- the state words are asked of cells that the stroke did not change
-  state-same : programAnswer lifeCycleRule (struck prims map m target given) (stateAt map) (move prims map m target given)
+  state-same : programAnswer lifeCycleRule (stroke-cells prims map m target given) (stateAt map) (move prims map m target given)
       ≡ programAnswer lifeCycleRule (m .lent .cells) (stateAt map) (stateWords (m .lent .constants) target)
   unfolding stateAt
   state-same =
@@ -224,7 +224,7 @@ module _ (prims : Primitives) (map : Map) (m : Machine) (target given : ℕ) whe
   unfolding sameCode
   exact c e =
       let p = place e in
-      let w = why e in (
+      let w = causes e in (
         past-only p,
         used-only c p,
         λ l k. (
@@ -246,7 +246,7 @@ pub tokens-compared : (prims : Primitives) (map : Map) (m : Machine) (target hig
 unfolding early
 tokens-compared prims map m target high low =
     ⊎-elim (λ a. ((λ q. absurd (true-not-false (a .0) (rw q))), λ q. absurd (true-not-false (a .0) (rw q))))
-    (λ a. (let w = why prims map m target (high * 2 ^ 64 + low) (a .2) in (w .same, w .other))) (step-ends prims map m target high low)
+    (λ a. (let w = causes prims map m target (high * 2 ^ 64 + low) (a .2) in (w .same, w .other))) (step-ends prims map m target high low)
 
 -- ---- the record, and the value
 

@@ -40,9 +40,9 @@ agreed x y true e = sym (eqb-true y x e)
 agreed x y false e = λ q. eqb-false y x e (sym q)
 
 -- an early code is none of those after the stroke
-pub clash : (code : ℕ) → early code ≡ true → strokeOnly code ≡ true → ⊥
+pub early-no-stroke : (code : ℕ) → early code ≡ true → strokeOnly code ≡ true → ⊥
 unfolding early strokeOnly
-clash code e q = by-cases (eqb code 0x21) (λ t. true-not-false e (rw (eqb-true code 0x21 t))) λ f.
+early-no-stroke code e q = by-cases (eqb code 0x21) (λ t. true-not-false e (rw (eqb-true code 0x21 t))) λ f.
     by-cases (eqb code 0x22) (λ t. true-not-false e (rw (eqb-true code 0x22 t))) λ g.
     by-cases (eqb code 0x23) (λ t. true-not-false e (rw (eqb-true code 0x23 t))) λ h. true-not-false q (rw (f, g, h))
 
@@ -57,40 +57,40 @@ module _ (prims : Primitives) (map : Map) (m : Machine) (target given : ℕ) whe
   stroke = strokeWords prims map m
 
   -- the cells once a stroke is spent
-  abbrev pub struck : List ℕ
-  struck = programCells lifeCycleRule cells₀ (counterAt map) stroke
+  abbrev pub stroke-cells : List ℕ
+  stroke-cells = programCells lifeCycleRule cells₀ (counterAt map) stroke
 
   abbrev pub move : List ℕ
   move = stateWords (m .lent .constants) target
 
-  abbrev pub Room : Type 0
-  Room = (target ≤ 20) × (m .session .count < 24)
+  abbrev pub InRange : Type 0
+  InRange = (target ≤ 20) × (m .session .count < 24)
 
   abbrev pub Taken : Type 0
-  Taken = Room × (programAnswer lifeCycleRule cells₀ (counterAt map) stroke ≡ programmed.Done)
+  Taken = InRange × (programAnswer lifeCycleRule cells₀ (counterAt map) stroke ≡ programmed.Done)
 
   pub data Ending (answer : Answer) (cells : List ℕ) : Type 0 where
     unknownTarget : 20 < target → answer ≡ UnknownTarget → Ending answer cells
     used : target ≤ 20 → 24 ≤ m .session .count → answer ≡ StrokesUsed → cells ≡ cells₀ → Ending answer cells
-    counterStops : {cell : ℕ} → Room → programAnswer lifeCycleRule cells₀ (counterAt map) stroke ≡ programmed.Refused cell → answer ≡ NotBlank cell → cells ≡ cells₀ → Ending answer cells
-    notInTable : Taken → transition (m .session .state) target ≡ Forbidden → answer ≡ NotInTable → cells ≡ struck → Ending answer cells
-    tokenNotLocked : Taken → Unlocked prims map m target → answer ≡ TokenNotLocked → cells ≡ struck → Ending answer cells
-    tokenDiffers : Taken → Asked prims map m target given false → answer ≡ TokenDiffers → cells ≡ struck → Ending answer cells
-    stateStops : {cell : ℕ} → Taken → Asked prims map m target given true → programAnswer lifeCycleRule struck (stateAt map) move ≡ programmed.Refused cell
-        → answer ≡ NotBlank cell → cells ≡ struck → Ending answer cells
-    moved : Taken → Asked prims map m target given true → programAnswer lifeCycleRule struck (stateAt map) move ≡ programmed.Done → answer ≡ Done 0
-        → cells ≡ programCells lifeCycleRule struck (stateAt map) move → Ending answer cells
+    counterStops : {cell : ℕ} → InRange → programAnswer lifeCycleRule cells₀ (counterAt map) stroke ≡ programmed.Refused cell → answer ≡ NotBlank cell → cells ≡ cells₀ → Ending answer cells
+    notInTable : Taken → transition (m .session .state) target ≡ Forbidden → answer ≡ NotInTable → cells ≡ stroke-cells → Ending answer cells
+    tokenNotLocked : Taken → Unlocked prims map m target → answer ≡ TokenNotLocked → cells ≡ stroke-cells → Ending answer cells
+    tokenDiffers : Taken → Asked prims map m target given false → answer ≡ TokenDiffers → cells ≡ stroke-cells → Ending answer cells
+    stateStops : {cell : ℕ} → Taken → Asked prims map m target given true → programAnswer lifeCycleRule stroke-cells (stateAt map) move ≡ programmed.Refused cell
+        → answer ≡ NotBlank cell → cells ≡ stroke-cells → Ending answer cells
+    moved : Taken → Asked prims map m target given true → programAnswer lifeCycleRule stroke-cells (stateAt map) move ≡ programmed.Done → answer ≡ Done 0
+        → cells ≡ programCells lifeCycleRule stroke-cells (stateAt map) move → Ending answer cells
 
   abbrev Ends : Performed → Type 0
   Ends r = Ending (r .answer) (r .cells)
 
-  moves : Taken → Asked prims map m target given true → Ends (perform (moveAct prims map m target) copy struck)
+  moves : Taken → Asked prims map m target given true → Ends (perform (moveAct prims map m target) copy stroke-cells)
   unfolding moveAct perform
-  moves t asked = after-both Ends (programAnswer lifeCycleRule struck (stateAt map) move) _ _ (λ e. moved t asked e refl refl) (λ cell e. stateStops t asked e refl refl)
+  moves t asked = after-both Ends (programAnswer lifeCycleRule stroke-cells (stateAt map) move) _ _ (λ e. moved t asked e refl refl) (λ cell e. stateStops t asked e refl refl)
 
   compares : (token : Token) → transition (m .session .state) target ≡ Allowed token → (test : List ℕ → Bool)
       → ((same : Bool) → test copy ≡ same → Compared prims map m given same token) → Taken
-      → Ends (perform (compare test (moveAct prims map m target) (say TokenDiffers halt)) copy struck)
+      → Ends (perform (compare test (moveAct prims map m target) (say TokenDiffers halt)) copy stroke-cells)
   unfolding perform noting
   compares token e test h t =
       if-both Ends (test copy) _ _ (λ s. moves t (record { token = token; allowed = e; compared = h true s }))
@@ -99,14 +99,14 @@ module _ (prims : Primitives) (map : Map) (m : Machine) (target given : ℕ) whe
   locked : (token : Token) → transition (m .session .state) target ≡ Allowed token
       → (sensedAt (m .session) (numberOfKind map (tokenKind token)) ≡ 0 → Unlocked prims map m target)
       → ((same : Bool) → Stored prims map m given same (tokenKind token) (tokenOffset token) → Compared prims map m given same token) → Taken
-      → Ends (perform (lockedTokenAct prims map m token target given) copy struck)
+      → Ends (perform (lockedTokenAct prims map m token target given) copy stroke-cells)
   unfolding lockedTokenAct sensedLocked hashesTo storedToken
   locked token e zero h t =
-      if-both (λ (a : Act). Ends (perform a copy struck)) _ _ _
+      if-both (λ (a : Act). Ends (perform a copy stroke-cells)) _ _ _
       (λ s. unfold perform in (tokenNotLocked t (zero (eqb-true _ 0 (not-false _ (not-true _ s)))) refl refl))
       (λ s. compares token e _ (λ same q. h same (eqb-false _ 0 (not-true _ (not-false _ s)), agreed _ _ same q)) t)
 
-  asks : (entry : Entry) → transition (m .session .state) target ≡ entry → Taken → Ends (perform (entryAct prims map m entry target given) copy struck)
+  asks : (entry : Entry) → transition (m .session .state) target ≡ entry → Taken → Ends (perform (entryAct prims map m entry target given) copy stroke-cells)
   unfolding entryAct tokenAct tokenKind tokenOffset hashesTo rawUnlockHash
   asks Forbidden e t = unfold perform in (notInTable t e refl refl)
   asks (Allowed Nothing) e t = moves t (record { token = Nothing; allowed = e; compared = refl })
@@ -115,9 +115,9 @@ module _ (prims : Primitives) (map : Map) (m : Machine) (target given : ℕ) whe
   asks (Allowed TestExit) e t = locked TestExit e (testExit e) (λ same s. s) t
   asks (Allowed Rma) e t = locked Rma e (rma e) (λ same s. s) t
 
-  strikes : Room → Ends (perform (program lifeCycleRule (counterAt map) stroke die (entryAct prims map m (transition (m .session .state) target) target given)) copy cells₀)
+  spends : InRange → Ends (perform (program lifeCycleRule (counterAt map) stroke die (entryAct prims map m (transition (m .session .state) target) target given)) copy cells₀)
   unfolding perform
-  strikes room = after-both Ends (programAnswer lifeCycleRule cells₀ (counterAt map) stroke) _ _ (λ e. asks _ refl (room, e)) (λ cell e. counterStops room e refl refl)
+  spends room = after-both Ends (programAnswer lifeCycleRule cells₀ (counterAt map) stroke) _ _ (λ e. asks _ refl (room, e)) (λ cell e. counterStops room e refl refl)
 
   -- once the record is judged
   pub ends : Ends (perform
@@ -128,7 +128,7 @@ module _ (prims : Primitives) (map : Map) (m : Machine) (target given : ℕ) whe
       let to : Act → Type 0 = λ a. Ends (perform a copy cells₀) in
       if-both to _ _ _ (λ t. unfold perform in (unknownTarget (leb-false target 20 (not-true _ t)) refl))
       λ t. if-both to _ _ _ (λ u. unfold perform in (used (leb-true target 20 (not-false _ t)) (ltb-false (m .session .count) 24 (not-true _ u)) refl refl))
-      λ u. strikes (leb-true target 20 (not-false _ t), ltb-true (m .session .count) 24 (not-false _ u))
+      λ u. spends (leb-true target 20 (not-false _ t), ltb-true (m .session .count) 24 (not-false _ u))
 
   -- the whole act: the phase, then the record, then these
   pub act-ends : (high low : ℕ) → given ≡ high * 2 ^ 64 + low

@@ -23,7 +23,7 @@ use Rattle.model.specs.Claims.Refusals.{early}
 use Rattle.model.specs.Claims.Transitions.{strokeOnly, Fair, Leaves}
 use Rattle.model.proofs.Steps.{step-up, step-right}
 use Rattle.model.proofs.Refusals.{transitions-refuse}
-use Rattle.model.proofs.TransitionEnds.{clash}
+use Rattle.model.proofs.TransitionEnds.{early-no-stroke}
 use Rattle.model.proofs.NotReady.{later-phase, after-not-ready}
 use Rattle.model.proofs.Since.{Reached, recorded}
 use Rattle.model.proofs.TransitionLife.{LifeAfter, kept, spent, went, transition-life}
@@ -55,7 +55,7 @@ module _ (prims : Primitives) (map : Map) (F : fit map ≡ true) where
     }
 
     late : strokeOnly code ≡ true → early code ≡ false
-    late q = not-passed _ (λ t. clash code t q)
+    late q = not-passed _ (λ t. early-no-stroke code t q)
 
     zero-late : code ≡ 0x00 → early code ≡ false
     unfolding early

@@ -29,7 +29,7 @@ use Rattle.model.specs.declared.Answer.{Answer}
 use Rattle.model.specs.Claims.Transitions.{strokeOnly}
 use Rattle.model.proofs.Steps.{step-constants}
 use Rattle.model.proofs.Refusals.{transitions-refuse}
-use Rattle.model.proofs.TransitionEnds.{Ending, unknownTarget, used, counterStops, notInTable, tokenNotLocked, tokenDiffers, stateStops, moved, step-ends, clash}
+use Rattle.model.proofs.TransitionEnds.{Ending, unknownTarget, used, counterStops, notInTable, tokenNotLocked, tokenDiffers, stateStops, moved, step-ends, early-no-stroke}
 use Rattle.model.proofs.LifeCycleWords.{Recorded, stroke-fits, move-fits, life-of, spent-life, moved-life}
 
 -- what the life cycle words decode to after a transition, by its code: what they did before; the record's state and one stroke more; or the target and one stroke more
@@ -81,7 +81,7 @@ module _ (prims : Primitives) (map : Map) (F : fit map ≡ true) (m : Machine) (
   refused : early (codeOf (answerTo prims map x m)) ≡ true → LifeAfter prims map m target (codeOf (answerTo prims map x m)) (lifeCycleIn map (m₁ .lent))
   unfolding early strokeOnly
   refused e =
-      kept (not-passed _ (λ q. clash (codeOf (answerTo prims map (Transition target high low) m)) e q)) (λ q. true-not-false e (rw q)) (λ q. true-not-false e (rw q))
+      kept (not-passed _ (λ q. early-no-stroke (codeOf (answerTo prims map (Transition target high low) m)) e q)) (λ q. true-not-false e (rw q)) (λ q. true-not-false e (rw q))
       (ap (λ (k : Machine). lifeCycleIn map (k .lent)) (transitions-refuse prims map m target high low .0 e))
 
   pub transition-life : LifeAfter prims map m target (codeOf (answerTo prims map x m)) (lifeCycleIn map (m₁ .lent))
