@@ -91,7 +91,7 @@ pub record Step : Type 0 where
   pub code : ℕ
   pub value : ℕ
 
--- a refusal leaves the machine as it was; its value is the place, which is 0. 32 bytes are never at their end, so that nobody asks its clause.
+-- a refusal leaves the machine as it was; its value is the place, which is 0. Place 0 of 32 bytes is never their end: its clause is never asked.
 unfoldable pub stepBy : Map → Reading → Machine → Step
 stepBy map (Record command next) m =
     let r = resultFor map command m in

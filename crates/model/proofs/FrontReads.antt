@@ -1,4 +1,4 @@
--- Front reads, and that the device code is final. The idea: a front read shows the copy, which is as the last power-up latched it; and every power-up since one that found a
+-- Front reads, and that they show the same words once the partition is locked. The idea: a front read shows the copy, which is as the last power-up latched it; and every power-up since one that found a
 -- partition locked latches the words that it found.
 use mathlib.Core.Path.{_≡_, refl, sym, _∙_, ap}
 use mathlib.Core.Bool.{true}

@@ -1,4 +1,4 @@
--- Tokens, end to end. The idea: the copy holds each block of the secret unscrambled, and unscrambling undoes the scrambling of the write; so the eight words are the two halves.
+-- Tokens, from the write of a hash to its comparison. The idea: the copy holds each block of the secret unscrambled, and unscrambling undoes the scrambling of the write; so the eight words are the two halves.
 use mathlib.Core.Path.{_≡_, refl, sym, ap, ap₂, subst, _∙_}
 use mathlib.Core.Bool.{Bool, true}
 use mathlib.Core.List.{List, [], _∷_, _++_}

@@ -66,7 +66,7 @@ rows =
     ∷ (o ∷ o ∷ o ∷ o ∷ o ∷ o ∷ o ∷ o ∷ o ∷ o ∷ o ∷ o ∷ o ∷ o ∷ o ∷ o ∷ o ∷ o ∷ o ∷ o ∷ o ∷ [])
     ∷ []
 
--- bit i of a state's number is 1 where "B" stands in word i: "state k of 1..15 has B in words 0..k-1. DEV (16): B in 0..15. PROD (17): 0..14 and 16. PROD_END (18):
+-- bit i of a state's number is 1 where B stands in word i: "state k of 1..15 has B in words 0..k-1. DEV (16): B in 0..15. PROD (17): 0..14 and 16. PROD_END (18):
 -- 0..14 and 17. RMA (19): 0..16 and 18. SCRAP (20): all B."
 abbrev pub marks : List ℕ
 marks =

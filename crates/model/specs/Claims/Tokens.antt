@@ -1,4 +1,4 @@
--- Tokens, end to end: the hash that was written, scrambled, and locked is what a given token is compared with.
+-- Tokens: the hash that was written, scrambled, and locked is what the hash of a given token is compared with.
 use Prim.Native.Nat.{ℕ, _+_, _*_, _/_, _^_, _≤_, _<_}
 use mathlib.Core.Path.{_≡_}
 use mathlib.Core.Bool.{Bool, true}
