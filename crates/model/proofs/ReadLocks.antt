@@ -8,10 +8,10 @@ use native.Mathlib.Omega.{arith}
 use lib.Dec.{eqb, leb, ltb}
 use lib.ListN.{length, getD, set, length-set}
 use lib.Seq.{set-out, getD-set-same, getD-set-other}
-use borrow.Author.Tests.{eqb-true, eqb-false, ltb-true, ltb-false, not-false, not-true}
+use borrow.Author.Tests.{eqb-true, eqb-false, ltb-true, ltb-false, not-false, not-true, leb-false, lt-leb}
 use Rattle.basics.specs.Choice.{if_then_else_}
 use Rattle.basics.proofs.Choice.{true-not-false, by-cases, if-both, if-same, not-passed}
-use Rattle.partitions.specs.Map.{Map, rightsOf, numberAt, partition, partitionAt, limit}
+use Rattle.partitions.specs.Map.{Map, rightsOf, numberAt, partition, partitionAt, limit, inDigest}
 use Rattle.partitions.specs.Fitness.{fit}
 use Rattle.partitions.proofs.KindRights.{lockable-direct}
 use Rattle.partitions.proofs.Map.{digest-below-ten, partition-at, direct-known}
@@ -134,10 +134,10 @@ module _ (prims : Primitives) (map : Map) (n : ℕ) where
   -- a read of something else answers alike
   read-alike : (m : Machine) (ys : List Bool) → Near n (m .session .locks) ys → (a : ℕ) → (readsData map n (Read a) → ⊥)
       → readyAct prims map (with-locks ys m) (Read a) ≡ readyAct prims map m (Read a)
-  unfolding readyAct commandAct readAct sensedLocked sensedAt readLocked
+  unfolding readyAct commandAct readAct sensedLocked sensedAt readLocked inDigest
   read-alike m ys h a other =
       if-same (λ e. refl) λ e. if-same (λ e. refl) λ e. if-same (λ e. refl) λ e. if-same (λ e. refl)
-      λ d. rw (h .at (numberAt map a) (λ q. other (q, d))) refl
+      λ d. rw (h .at (numberAt map a) (λ q. other (q, leb-false _ _ d))) refl
 
   -- ---- one command on both
 
@@ -280,13 +280,14 @@ module _ (prims : Primitives) (map : Map) where
   read-denied : (n : ℕ) (m : Machine) → Right map m → rightsOf (partition map n .kind) .lockable ≡ true → readLocked (m .session) n ≡ true → (a : ℕ)
       → readsData map n (Read a)
       → answerTo prims map (Read a) m ≡ (if isReady (m .session .phase) then Denied else NotReady)
-  unfolding obey act performed readyAct commandAct readAct perform if_then_else_
+  unfolding obey act performed readyAct commandAct readAct perform inDigest if_then_else_
   read-denied n m r k e a d =
       let kind : rightsOf (partitionAt map a .kind) .lockable ≡ true = rw (partition-at map a (d .0)) k in
+      let side : leb (partitionAt map a .digest) a ≡ false = lt-leb _ _ (d .1) in
       let to : Act → Type 0 = λ x. perform x (m .lent .copy) (m .lent .cells) .answer ≡ Denied in
       rw (step-obeys prims map (Read a) m r, answerTo) (by-cases (isReady (m .session .phase))
       (λ t. rw t (if-both to (leb (limit map) a) _ _ (λ t. refl) λ t. if-both to (not (rightsOf (partitionAt map a .kind) .direct)) _ _ (λ t. refl)
-      λ t. rw (d .1, d .0, e, kind) refl))
+      λ t. rw (side, d .0, e, kind) refl))
       (λ t. rw t refl))
 
   pub locks-last : fit map ≡ true → (m : Machine) → Right map m → (l₀ : List Command) (n : ℕ)

@@ -128,7 +128,7 @@ unbounded = refl
 
 shut : answerTo toy map1 (Read 0) (after toy map1 (Write 4 1 ∷ []) (machineAfter toy map1 (ReadLock 0) (after toy map1 (PowerUp ∷ []) (off blank)))) ≡ Denied
 unfolding everything
-shut = toy-claims .readLocks .lasts (off blank) (right blank refl) [] 0 refl (Write 4 1 ∷ []) (tt, tt) 0 (refl, refl)
+shut = toy-claims .readLocks .lasts (off blank) (right blank refl) [] 0 refl (Write 4 1 ∷ []) (tt, tt) 0 (refl, lit< tt)
 
 -- a record without locks takes a read lock that locks nothing: no power-up leaves one
 without-locks : Machine

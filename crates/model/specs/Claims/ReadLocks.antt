@@ -5,7 +5,7 @@ use mathlib.Core.Bool.{Bool, true, false}
 use mathlib.Core.List.{List, _∷_}
 use Rattle.basics.specs.Choice.{if_then_else_}
 use lib.ListN.{length, set}
-use Rattle.partitions.specs.Map.{Map, numberAt, partition, partitionAt, inDigest}
+use Rattle.partitions.specs.Map.{Map, numberAt, partition, partitionAt}
 use Rattle.model.specs.declared.Answer.the-variants.{Done, Denied, NotReady}
 use Rattle.model.specs.declared.Command.{Command}
 use Rattle.model.specs.declared.Command.the-variants.{Read, Write, FrontRead, Digest, ReadLock, Transition, PowerUp}
@@ -19,7 +19,7 @@ use Rattle.model.specs.declared.Phase.the-variants as phase
 
 -- the command reads data of partition n
 abbrev pub readsData : Map → ℕ → Command → Type 0
-readsData map n (Read a) = (numberAt map a ≡ n) × (inDigest (partitionAt map a) a ≡ false)
+readsData map n (Read a) = (numberAt map a ≡ n) × (a < partitionAt map a .digest)
 readsData map n (Write a value) = ⊥
 readsData map n (FrontRead a) = ⊥
 readsData map n (Digest a) = ⊥
