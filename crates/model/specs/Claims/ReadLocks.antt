@@ -1,7 +1,7 @@
 -- Read locks: what a lock refuses, until when, and that nothing else looks at it.
 use Prim.Native.Nat.{ℕ, _<_}
 use mathlib.Core.Path.{_≡_}
-use mathlib.Core.Bool.{Bool, true, false}
+use mathlib.Core.Bool.{Bool, true}
 use mathlib.Core.List.{List, _∷_}
 use Rattle.basics.specs.Choice.{if_then_else_}
 use lib.ListN.{length, set}
