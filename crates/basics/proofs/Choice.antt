@@ -1,5 +1,6 @@
 -- Laws of Booleans and of choice. The idea: a test whose value a goal doesn't show is taken apart once, here.
 use mathlib.Core.Path.{_≡_, refl, sym, subst, _∙_}
+use mathlib.Core.Option.{Option, none, some}
 use mathlib.Core.Bool.{Bool, true, false, _&&_, _||_}
 use Prim.Native.Nat.{ℕ}
 use native.Mathlib.Omega.{arith}
@@ -10,6 +11,11 @@ use Rattle.basics.specs.Choice.{if_then_else_}
 pub by-cases {ℓ} : {X : Type ℓ} (b : Bool) → (b ≡ true → X) → (b ≡ false → X) → X
 by-cases true f g = f refl
 by-cases false f g = g refl
+
+-- something or nothing, likewise
+pub by-option {ℓ κ} : {A : Type κ} {X : Type ℓ} (o : Option A) → (o ≡ none → X) → ((a : A) → o ≡ some a → X) → X
+by-option none f g = f refl
+by-option (some a) f g = g a refl
 
 pub true-not-false : {b : Bool} → b ≡ true → b ≡ false → ⊥
 true-not-false e f = let z : _≡_ {A = ℕ} 0 1 = cc in omega arith
@@ -54,6 +60,18 @@ or-none-left false b e = refl
 pub or-none-right : (a b : Bool) → (a || b) ≡ false → b ≡ false
 or-none-right true b e = absurd (true-not-false refl e)
 or-none-right false b e = e
+
+pub or-either {ℓ} : {X : Type ℓ} (a b : Bool) → (a || b) ≡ true → (a ≡ true → X) → (b ≡ true → X) → X
+or-either true b e f g = f refl
+or-either false b e f g = g e
+
+pub or-right : (a b : Bool) → b ≡ true → (a || b) ≡ true
+or-right true b e = refl
+or-right false b e = e
+
+pub or-none : (a b : Bool) → a ≡ false → b ≡ false → (a || b) ≡ false
+or-none true b e f = e
+or-none false b e f = f
 
 pub if-true {ℓ} : {A : Type ℓ} {b : Bool} (x y : A) → b ≡ true → (if b then x else y) ≡ x
 unfolding if_then_else_

@@ -78,7 +78,7 @@ sets-more f zero xs i h known j l = known j (omega arith)
 sets-more f (suc n) xs i h known j l =
     sets-more f n (set xs i (f i)) (suc i) (rw length-set (omega arith)) (set-more f xs i (f i) (omega arith) refl known) j (omega arith)
 
--- ---- a loop that stores one entry a turn
+-- ---- a loop that stores one entry at a time
 
 -- the first i of n entries follow the rule
 pub record Follows (f : ℕ → ℕ) (n : ℕ) (xs : List ℕ) (i : ℕ) : Type 0 where

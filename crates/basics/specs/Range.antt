@@ -2,6 +2,8 @@
 use Prim.Native.Nat.{ℕ, zero, suc, _+_}
 use mathlib.Core.Bool.{Bool, true, false, _&&_, _||_}
 use mathlib.Core.List.{List, [], _∷_}
+use mathlib.Core.Option.{Option, none, some}
+use Rattle.basics.specs.Choice.{if_then_else_}
 
 -- the test passes at every number below n
 unfoldable pub allBelow : ℕ → (ℕ → Bool) → Bool
@@ -22,3 +24,8 @@ listed f i (suc n) = f i ∷ listed f (suc i) n
 unfoldable pub sum : ℕ → (ℕ → ℕ) → ℕ
 sum zero f = 0
 sum (suc n) f = f n + sum n f
+
+-- the first of the n numbers i, i + 1, .. at which the test fails
+unfoldable pub firstNot : (ℕ → Bool) → ℕ → ℕ → Option ℕ
+firstNot test i zero = none
+firstNot test i (suc n) = if test i then firstNot test (suc i) n else some i

@@ -18,8 +18,8 @@ counted n start rest whole e q =
     let h : n ≤ length whole = rw q (omega (arith, length-append start rest)) in
     (h, sym (length-take-le n whole h))
 
-pub words-counted : (n room : ℕ) (bytes old new : List ℕ) → n ≡ length (lentWords room bytes) → new ≡ lentWords room bytes ++ drop n old → Prefix n new
-words-counted n room bytes old new e q = counted n (lentWords room bytes) (drop n old) new e q
+pub words-counted : (n space : ℕ) (bytes old new : List ℕ) → n ≡ length (lentWords space bytes) → new ≡ lentWords space bytes ++ drop n old → Prefix n new
+words-counted n space bytes old new e q = counted n (lentWords space bytes) (drop n old) new e q
 
 pub end-counted : (e : EndLine) (count : ℕ) → e ≡ endLineOf count → Prefix (e .len) (e .bytes)
 end-counted e count q =

@@ -4,14 +4,14 @@ use libc::STDIN_FILENO;
 use libc::STDOUT_FILENO;
 use model::Session;
 use partitions::MapName;
-use transcript::Course;
+use transcript::Continuation;
 ghost use mathlib.Core.Path.{_≡_};
 ghost use Prim.Native.Nat.{_+_, _≤_};
 ghost use lib.ListN.{length, take};
 ghost use Rattle.io.specs.Counts.{Counts};
 
 // More than there are records in the bytes of `script_buffer`.
-const MOST_TURNS: u32 = 65538;
+const MOST_RECORDS: u32 = 65538;
 
 // How many bytes of lines wait to be written, and whether all before them were.
 struct Waiting {
@@ -60,7 +60,7 @@ fn constants_buffer() -> [u16; 133]
     [0; 133]
 }
 
-// Room for 200 lines.
+// Space for 200 lines.
 fn lines_buffer() -> [u8; 4600]
     ensures { λ r. ⌜ 4600 ≡ length r ⌝ }
 {
@@ -87,7 +87,7 @@ fn words_of(bytes: &[u8], words: &mut [u16]) -> usize
     transcript::file_words(bytes, words)
 }
 
-// Fills words from a file, and says how many it has. A file with more words than there is room for is too long in any case.
+// Fills words from a file, and says how many it has. A file with more words than fit is too long in any case.
 fn read_words(path: &[u8], words: &mut [u16]) -> usize
     ensures { λ r. ⌜ (r ≤ length (now (words .exit))) × (r ≡ length (take r (now (words .exit)))) ⌝ }
 {
@@ -112,7 +112,7 @@ fn store(out: &mut [u8], at: usize, line: &[u8; 23])
     }
 }
 
-// Adds a line to those that wait, which are written first where there is no room for it.
+// Adds a line to those that wait, which are written first where it does not fit.
 fn gather(out: &mut [u8], used: usize, line: &[u8; 23]) -> Waiting
     requires { ⌜ (used ≤ length (now out)) × (23 ≤ length (now out)) ⌝ }
     ensures { λ r. ⌜ r .used ≤ length (now (out .entry)) ⌝ }
@@ -130,16 +130,16 @@ fn gather(out: &mut [u8], used: usize, line: &[u8; 23]) -> Waiting
 }
 
 // More follows.
-fn goes_on(course: Course) -> bool {
-    match course {
-        Course::Goes => true,
-        Course::Stops => false,
-        Course::Ends => false,
+fn goes_on(continuation: Continuation) -> bool {
+    match continuation {
+        Continuation::Continues => true,
+        Continuation::Stops => false,
+        Continuation::Ends => false,
     }
 }
 
-// Takes a turn, and gathers its line where it has one.
-fn take_turn(
+// Runs a record, and gathers its line where it has one.
+fn run_one(
     script: &[u8],
     cells: &mut [u16],
     copy: &mut [u16],
@@ -151,11 +151,11 @@ fn take_turn(
     requires { ⌜ (at .waiting .used ≤ length (now out)) × (23 ≤ length (now out)) ⌝ }
     ensures { λ r. ⌜ r .waiting .used ≤ length (now (out .entry)) ⌝ }
 {
-    let t = transcript::turn(script, at.place, cells, copy, constants, map, at.session);
-    let course = t.course;
+    let t = transcript::run_record(script, at.place, cells, copy, constants, map, at.session);
+    let continuation = t.continuation;
     let session = t.session;
     let before = at.waiting;
-    if let Course::Ends = course {
+    if let Continuation::Ends = continuation {
         return Progress {
             session,
             place: t.place,
@@ -169,12 +169,12 @@ fn take_turn(
         session,
         place: t.place,
         waiting,
-        going: goes_on(course) && waiting.written,
+        going: goes_on(continuation) && waiting.written,
     }
 }
 
-// Takes turns until one is the last, or its line is not taken.
-fn take_turns(
+// Runs records until one is the last, or its line is not taken.
+fn run_records(
     script: &[u8],
     cells: &mut [u16],
     copy: &mut [u16],
@@ -195,9 +195,9 @@ fn take_turns(
         waiting,
         going: true,
     };
-    let mut left = MOST_TURNS;
+    let mut left = MOST_RECORDS;
     while left > 0 && at.going {
-        at = take_turn(script, cells, copy, constants, map, out, at);
+        at = run_one(script, cells, copy, constants, map, out, at);
         left -= 1;
     }
     at
@@ -220,7 +220,7 @@ fn rehearse(
     map: MapName,
 ) -> bool {
     let mut out = lines_buffer();
-    let at = take_turns(script, cells, copy, constants, map, &mut out);
+    let at = run_records(script, cells, copy, constants, map, &mut out);
     let waiting = at.waiting;
     if waiting.written {
         let written = write_out(&out, waiting.used);
@@ -238,7 +238,7 @@ fn rehearse_on(script: &[u8], cells: &mut [u16], constants: &[u16], map: MapName
     rehearse(script, cells, &mut copy[..words], constants, map)
 }
 
-// Rehearses standard input over `image.bin` and `constants.bin`; the image's size tells the map.
+// Rehearses standard input over `image.bin` and `constants.bin`; the image's size decides the map.
 fn main() {
     let mut script = script_buffer();
     let n = io::read_full(STDIN_FILENO, &mut script);

@@ -1,5 +1,7 @@
 pub mod Judging
-pub mod Admission
 pub mod Reading
 pub mod Acting
 pub mod LifeCyclePlace
+pub mod Theorems
+pub mod Cases
+pub mod Examples

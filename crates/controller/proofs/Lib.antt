@@ -1,3 +1,0 @@
-pub mod Theorems
-pub mod Cases
-pub mod Examples

@@ -3,9 +3,9 @@ use model::Command;
 use model::Outcome;
 use model::Session;
 use partitions::MapName;
-ghost use mathlib.Core.Path.{_≡_};
+use words::Halves;
 ghost use Rattle.partitions.specs.Maps.{mapOf};
-ghost use Rattle.chip.specs.Chip.{machineOf, resultOf, resultFor};
+ghost use Rattle.chip.specs.Chip.{lentOf, Executes};
 
 // Executes a command on what is lent, and gives the record and the answer back.
 pub fn execute(
@@ -16,7 +16,9 @@ pub fn execute(
     session: Session,
     command: Command,
 ) -> Outcome
-    ensures { λ r. ⌜ resultOf (now (cells .exit)) (now (copy .exit)) (now (constants .entry)) r ≡ resultFor (mapOf map) command (machineOf (now (cells .entry)) (now (copy .entry)) (now (constants .entry)) session) ⌝ }
+    ensures { λ r.
+        ⌜ Executes (mapOf map) command session (lentOf (now (cells .entry)) (now (copy .entry)) (now (constants .entry)))
+        (lentOf (now (cells .exit)) (now (copy .exit)) (now (constants .entry))) r ⌝ }
 {
     match command {
         Command::Read(address) => {
@@ -35,7 +37,8 @@ pub fn execute(
             direct_access::read_lock(&cells[..], &copy[..], constants, map, session, partition)
         }
         Command::Transition(target, high, low) => {
-            transition::transition(cells, &copy[..], constants, map, session, target, high, low)
+            let token = Halves { high, low };
+            transition::transition(cells, &copy[..], constants, map, session, target, token)
         }
         Command::PowerUp => power_up::power_up(&cells[..], copy, constants, map, session),
     }

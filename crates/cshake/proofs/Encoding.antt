@@ -72,7 +72,7 @@ count-is x n h l u =
     (λ t. by-cases (ltb (byteCount x) n) (λ s. absurd (omega (arith, fits x, u (byteCount x) (ltb-true _ _ s) (positive x))))
     (λ s. omega (arith, ltb-false)))
 
--- what a shift by n bytes tells
+-- what a shift by n bytes shows
 pub enough : (x n : ℕ) → x / 2 ^ (8 * n) ≡ 0 → x < 2 ^ (8 * n)
 enough x n e = omega (arith, div-lt-iff-lt-mul {k = 2 ^ (8 * n)} {x = x} {y = 1} (pow-pos (8 * n)) .0 (omega arith))
 

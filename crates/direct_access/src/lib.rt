@@ -2,7 +2,9 @@
 use chip::Judged;
 use model::Answer;
 use model::Outcome;
+use model::Phase;
 use model::Session;
+use model::Sizes;
 use partitions::MapName;
 use partitions::Partition;
 use words::Programmed;
@@ -13,9 +15,10 @@ ghost use lib.ListN.{length};
 ghost use Rattle.partitions.specs.Map.{firstWord, wordCount};
 ghost use Rattle.partitions.specs.Maps.{mapOf};
 ghost use Rattle.model.specs.declared.Command.{Command};
-ghost use Rattle.model.specs.Commands.{directRule, granule};
-ghost use Rattle.chip.specs.Chip.{machineOf, resultOf, resultFor};
-ghost use Rattle.direct_access.specs.Access.{reachedOf, mayWrite, mayRead, mayFrontRead, mayDigest, readValue, programmedAnswer};
+ghost use Rattle.model.specs.Commands.{directRule, granule, writeDenied, readDenied, frontReadDenied, digestDenied, readValue};
+ghost use Rattle.chip.specs.Chip.{primitives, lentOf, Executes};
+ghost use Rattle.chip.specs.Judging.{admission};
+ghost use Rattle.direct_access.specs.Access.{reachedOf, programmedAnswer};
 
 // The place of an address: the number of its partition, and the partition. Or the command is refused.
 enum Reached {
@@ -24,17 +27,10 @@ enum Reached {
 }
 
 // What every command on an address tests first, in the paper's order: what is lent, the phase, the address.
-fn reach(
-    cells: usize,
-    copy: usize,
-    constants: &[u16],
-    map: MapName,
-    session: Session,
-    address: usize,
-) -> Reached
-    ensures { λ r. ⌜ r ≡ reachedOf (mapOf map) cells copy (now (constants .entry)) (session .phase) address ⌝ }
+fn reach(sizes: Sizes, constants: &[u16], map: MapName, phase: Phase, address: usize) -> Reached
+    ensures { λ r. ⌜ r ≡ reachedOf (mapOf map) (admission (mapOf map) sizes (now (constants .entry)) phase) address ⌝ }
 {
-    match chip::admit(cells, copy, constants, map, session) {
+    match chip::admit(sizes, constants, map, phase) {
         Judged::Refused(answer) => Reached::Refused(answer),
         Judged::Accepted => {
             if map.limit() <= address {
@@ -46,46 +42,39 @@ fn reach(
     }
 }
 
-// Direct access, no hardware digest, not sensed locked.
-fn may_write(session: Session, number: usize, partition: Partition, address: usize) -> bool
-    ensures { λ r. ⌜ r ≡ mayWrite session number partition address ⌝ }
+// No direct access, a hardware digest, or sensed locked.
+fn write_denied(locked: bool, partition: Partition, address: usize) -> bool
+    ensures { λ r. ⌜ r ≡ writeDenied locked partition address ⌝ }
 {
-    let kind = partition.kind;
-    let rights = kind.rights();
-    let in_digest = rights.hardware & (partition.digest <= address);
-    let locked = session.sensed_at(number) != 0;
-    rights.direct & !in_digest & !locked
+    let rights = partition.rights();
+    let in_digest = partition.in_digest(address);
+    !rights.direct | (rights.hardware & in_digest) | locked
 }
 
-// Direct access; data only where it is not read-locked and no secret that is sensed locked. A read lock counts where the kind has one.
-fn may_read(session: Session, number: usize, partition: Partition, address: usize) -> bool
-    ensures { λ r. ⌜ r ≡ mayRead session number partition address ⌝ }
+// No direct access; data that are read-locked, or of a secret that is sensed locked. A read lock counts where the kind has one.
+fn read_denied(locked: bool, read_locked: bool, partition: Partition, address: usize) -> bool
+    ensures { λ r. ⌜ r ≡ readDenied locked «read_locked» partition address ⌝ }
 {
-    let kind = partition.kind;
-    let rights = kind.rights();
-    let locked = rights.scrambled & (session.sensed_at(number) != 0);
-    let read_locked = rights.lockable & session.read_locked(number);
-    let data = !read_locked & !locked;
-    rights.direct & ((partition.digest <= address) | data)
+    let rights = partition.rights();
+    let in_digest = partition.in_digest(address);
+    !rights.direct | (!in_digest & ((rights.lockable & read_locked) | (rights.scrambled & locked)))
 }
 
-// Data of a partition with front reads.
-fn may_front_read(partition: Partition, address: usize) -> bool
-    ensures { λ r. ⌜ r ≡ mayFrontRead partition address ⌝ }
+// No front reads, or the digest.
+fn front_read_denied(partition: Partition, address: usize) -> bool
+    ensures { λ r. ⌜ r ≡ frontReadDenied partition address ⌝ }
 {
-    let kind = partition.kind;
-    let rights = kind.rights();
-    rights.front & !(partition.digest <= address)
+    let rights = partition.rights();
+    let in_digest = partition.in_digest(address);
+    !rights.front | in_digest
 }
 
-// The start of a partition with a hardware digest, not sensed locked.
-fn may_digest(session: Session, number: usize, partition: Partition, address: usize) -> bool
-    ensures { λ r. ⌜ r ≡ mayDigest session number partition address ⌝ }
+// No hardware digest, not the start of the partition, or sensed locked.
+fn digest_denied(locked: bool, partition: Partition, address: usize) -> bool
+    ensures { λ r. ⌜ r ≡ digestDenied locked partition address ⌝ }
 {
-    let kind = partition.kind;
-    let rights = kind.rights();
-    let locked = session.sensed_at(number) != 0;
-    rights.hardware & (address == partition.start) & !locked
+    let rights = partition.rights();
+    !rights.hardware | !(address == partition.start) | locked
 }
 
 // The granule of an address, which lies in the words.
@@ -102,10 +91,10 @@ fn granule(words: &[u16], partition: Partition, address: usize) -> u64
 // What a read answers: a digest plain, secret data unscrambled.
 fn read_value(cells: &[u16], constants: &[u16], partition: Partition, address: usize) -> u64
     requires { ⌜ (firstWord partition address + wordCount partition address ≤ length (now cells)) × (wordCount partition address ≤ 4) ⌝ }
-    ensures { λ r. ⌜ r ≡ readValue (now (cells .entry)) (now (constants .entry)) partition address ⌝ }
+    ensures { λ r. ⌜ r ≡ readValue primitives (now (constants .entry)) partition (now (cells .entry)) address ⌝ }
 {
     let stored = granule(cells, partition, address);
-    if partition.digest <= address {
+    if partition.in_digest(address) {
         return stored;
     }
     chip::unscrambled(constants, partition, stored)
@@ -115,9 +104,9 @@ fn read_value(cells: &[u16], constants: &[u16], partition: Partition, address: u
 fn rule_at(partition: Partition, address: usize) -> Rule
     ensures { λ r. ⌜ r ≡ directRule partition address ⌝ }
 {
-    let kind = partition.kind;
-    let rights = kind.rights();
-    if rights.additive & !(partition.digest <= address) {
+    let rights = partition.rights();
+    let in_digest = partition.in_digest(address);
+    if rights.additive & !in_digest {
         return Rule::KeepBits;
     }
     Rule::BlankOnly
@@ -142,17 +131,24 @@ pub fn read(
     session: Session,
     address: u32,
 ) -> Outcome
-    ensures { λ r. ⌜ resultOf (now (cells .entry)) (now (copy .entry)) (now (constants .entry)) r ≡ resultFor (mapOf map) (Command.Read address) (machineOf (now (cells .entry)) (now (copy .entry)) (now (constants .entry)) session) ⌝ }
+    ensures { λ r.
+        ⌜ Executes (mapOf map) (Command.Read address) session (lentOf (now (cells .entry)) (now (copy .entry)) (now (constants .entry)))
+        (lentOf (now (cells .entry)) (now (copy .entry)) (now (constants .entry))) r ⌝ }
 {
     let byte = address as usize;
-    match reach(cells.len(), copy.len(), constants, map, session, byte) {
+    let sizes = Sizes {
+        cells: cells.len(),
+        copy: copy.len(),
+    };
+    let phase = session.phase;
+    match reach(sizes, constants, map, phase, byte) {
         Reached::Refused(answer) => Outcome { session, answer },
         Reached::At(number, partition) => {
-            if !may_read(session, number, partition, byte) {
-                return Outcome {
-                    session,
-                    answer: Answer::Denied,
-                };
+            let locked = session.sensed_locked(number);
+            let read_locked = session.read_locked(number);
+            if read_denied(locked, read_locked, partition, byte) {
+                let answer = Answer::Denied;
+                return Outcome { session, answer };
             }
             let value = read_value(cells, constants, partition, byte);
             Outcome {
@@ -173,17 +169,22 @@ pub fn write(
     address: u32,
     value: u64,
 ) -> Outcome
-    ensures { λ r. ⌜ resultOf (now (cells .exit)) (now (copy .entry)) (now (constants .entry)) r ≡ resultFor (mapOf map) (Command.Write address value) (machineOf (now (cells .entry)) (now (copy .entry)) (now (constants .entry)) session) ⌝ }
+    ensures { λ r.
+        ⌜ Executes (mapOf map) (Command.Write address value) session (lentOf (now (cells .entry)) (now (copy .entry)) (now (constants .entry)))
+        (lentOf (now (cells .exit)) (now (copy .entry)) (now (constants .entry))) r ⌝ }
 {
     let byte = address as usize;
-    match reach(cells.len(), copy.len(), constants, map, session, byte) {
+    let sizes = Sizes {
+        cells: cells.len(),
+        copy: copy.len(),
+    };
+    let phase = session.phase;
+    match reach(sizes, constants, map, phase, byte) {
         Reached::Refused(answer) => Outcome { session, answer },
         Reached::At(number, partition) => {
-            if !may_write(session, number, partition, byte) {
-                return Outcome {
-                    session,
-                    answer: Answer::Denied,
-                };
+            if write_denied(session.sensed_locked(number), partition, byte) {
+                let answer = Answer::Denied;
+                return Outcome { session, answer };
             }
             let place = partition.granule_at(byte);
             let n = place.words;
@@ -207,17 +208,22 @@ pub fn front_read(
     session: Session,
     address: u32,
 ) -> Outcome
-    ensures { λ r. ⌜ resultOf (now (cells .entry)) (now (copy .entry)) (now (constants .entry)) r ≡ resultFor (mapOf map) (Command.FrontRead address) (machineOf (now (cells .entry)) (now (copy .entry)) (now (constants .entry)) session) ⌝ }
+    ensures { λ r.
+        ⌜ Executes (mapOf map) (Command.FrontRead address) session (lentOf (now (cells .entry)) (now (copy .entry)) (now (constants .entry)))
+        (lentOf (now (cells .entry)) (now (copy .entry)) (now (constants .entry))) r ⌝ }
 {
     let byte = address as usize;
-    match reach(cells.len(), copy.len(), constants, map, session, byte) {
+    let sizes = Sizes {
+        cells: cells.len(),
+        copy: copy.len(),
+    };
+    let phase = session.phase;
+    match reach(sizes, constants, map, phase, byte) {
         Reached::Refused(answer) => Outcome { session, answer },
         Reached::At(_, partition) => {
-            if !may_front_read(partition, byte) {
-                return Outcome {
-                    session,
-                    answer: Answer::Denied,
-                };
+            if front_read_denied(partition, byte) {
+                let answer = Answer::Denied;
+                return Outcome { session, answer };
             }
             let value = granule(copy, partition, byte);
             Outcome {
@@ -237,23 +243,31 @@ pub fn digest(
     session: Session,
     address: u32,
 ) -> Outcome
-    ensures { λ r. ⌜ resultOf (now (cells .exit)) (now (copy .entry)) (now (constants .entry)) r ≡ resultFor (mapOf map) (Command.Digest address) (machineOf (now (cells .entry)) (now (copy .entry)) (now (constants .entry)) session) ⌝ }
+    ensures { λ r.
+        ⌜ Executes (mapOf map) (Command.Digest address) session (lentOf (now (cells .entry)) (now (copy .entry)) (now (constants .entry)))
+        (lentOf (now (cells .exit)) (now (copy .entry)) (now (constants .entry))) r ⌝ }
 {
     let byte = address as usize;
-    match reach(cells.len(), copy.len(), constants, map, session, byte) {
+    let sizes = Sizes {
+        cells: cells.len(),
+        copy: copy.len(),
+    };
+    let phase = session.phase;
+    match reach(sizes, constants, map, phase, byte) {
         Reached::Refused(answer) => Outcome { session, answer },
         Reached::At(number, partition) => {
-            if !may_digest(session, number, partition, byte) {
-                return Outcome {
-                    session,
-                    answer: Answer::Denied,
-                };
+            if digest_denied(session.sensed_locked(number), partition, byte) {
+                let answer = Answer::Denied;
+                return Outcome { session, answer };
             }
-            let at = partition.start / 2;
-            let end = partition.digest / 2;
-            let value = chip::digest_of(constants, &cells[at..end]);
+            let value = chip::computed_digest(&cells[..], constants, partition);
             let words = words::split(value);
-            let programmed = words::program(Rule::BlankOnly, cells, end, &words[..]);
+            let programmed = words::program(
+                Rule::BlankOnly,
+                cells,
+                partition.digest / 2,
+                &words[..],
+            );
             Outcome {
                 session,
                 answer: answer_of(programmed, value),
@@ -271,25 +285,27 @@ pub fn read_lock(
     session: Session,
     partition: u8,
 ) -> Outcome
-    ensures { λ r. ⌜ resultOf (now (cells .entry)) (now (copy .entry)) (now (constants .entry)) r ≡ resultFor (mapOf map) (Command.ReadLock partition) (machineOf (now (cells .entry)) (now (copy .entry)) (now (constants .entry)) session) ⌝ }
+    ensures { λ r.
+        ⌜ Executes (mapOf map) (Command.ReadLock partition) session (lentOf (now (cells .entry)) (now (copy .entry)) (now (constants .entry)))
+        (lentOf (now (cells .entry)) (now (copy .entry)) (now (constants .entry))) r ⌝ }
 {
-    match chip::admit(cells.len(), copy.len(), constants, map, session) {
+    let sizes = Sizes {
+        cells: cells.len(),
+        copy: copy.len(),
+    };
+    let phase = session.phase;
+    match chip::admit(sizes, constants, map, phase) {
         Judged::Refused(answer) => Outcome { session, answer },
         Judged::Accepted => {
             let number = partition as usize;
             let found = map.partition_of(number);
-            let kind = found.kind;
-            let rights = kind.rights();
+            let rights = found.rights();
             if !rights.lockable {
-                return Outcome {
-                    session,
-                    answer: Answer::Denied,
-                };
+                let answer = Answer::Denied;
+                return Outcome { session, answer };
             }
-            let mut locked = session;
-            locked.locks[number] = true;
             Outcome {
-                session: locked,
+                session: session.with_lock(number),
                 answer: Answer::Done(0),
             }
         }

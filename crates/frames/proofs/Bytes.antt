@@ -11,26 +11,26 @@ use Rattle.basics.specs.Range.{listed, sum}
 use Rattle.basics.specs.Digits.{digit}
 use Rattle.basics.proofs.Range.{length-listed}
 use Rattle.basics.proofs.Filling.{filled-length, filled-more}
-use Rattle.script.specs.Records.{byteAt, numberAt}
+use Rattle.script.specs.Records.{byteAt, littleEndianAt}
 use Rattle.script.proofs.Numbers.{four-bytes, eight-bytes}
 use Rattle.frames.specs.Bytes.{bytesOf, allBytes, zeros}
 
 -- ---- numbers read
 
-pub two-bytes : (s : List ℕ) (at : ℕ) → numberAt s at 2 ≡ byteAt s at + 256 * byteAt s (at + 1)
-unfolding numberAt sum
+pub two-bytes : (s : List ℕ) (at : ℕ) → littleEndianAt s at 2 ≡ byteAt s at + 256 * byteAt s (at + 1)
+unfolding littleEndianAt sum
 two-bytes s at = rw (add-zero at) (omega arith)
 
-two-words : (s : List ℕ) (at : ℕ) → numberAt s at 4 ≡ numberAt s at 2 + 65536 * numberAt s (at + 2) 2
+two-words : (s : List ℕ) (at : ℕ) → littleEndianAt s at 4 ≡ littleEndianAt s at 2 + 65536 * littleEndianAt s (at + 2) 2
 two-words s at =
     let e : byteAt s (at + 2 + 1) ≡ byteAt s (at + 3) = ap (byteAt s) (omega arith) in
     omega (arith, e, four-bytes s at, two-bytes s at, two-bytes s (at + 2))
 
 pub four-words : (s : List ℕ) (at : ℕ)
-    → numberAt s at 8
-    ≡ numberAt s at 2 + 65536 * numberAt s (at + 2) 2 + 4294967296 * numberAt s (at + 4) 2 + 281474976710656 * numberAt s (at + 6) 2
+    → littleEndianAt s at 8
+    ≡ littleEndianAt s at 2 + 65536 * littleEndianAt s (at + 2) 2 + 4294967296 * littleEndianAt s (at + 4) 2 + 281474976710656 * littleEndianAt s (at + 6) 2
 four-words s at =
-    let e : numberAt s (at + 4 + 2) 2 ≡ numberAt s (at + 6) 2 = ap (λ (k : ℕ). numberAt s k 2) (omega arith) in
+    let e : littleEndianAt s (at + 4 + 2) 2 ≡ littleEndianAt s (at + 6) 2 = ap (λ (k : ℕ). littleEndianAt s k 2) (omega arith) in
     omega (arith, e, eight-bytes s at, two-words s at, two-words s (at + 4))
 
 -- ---- zeros

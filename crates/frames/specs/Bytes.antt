@@ -4,11 +4,11 @@ use mathlib.Core.List.{List, [], _∷_, _++_}
 use lib.ListN.{length, take, drop, replicate}
 use Rattle.basics.specs.Range.{listed}
 use Rattle.basics.specs.Digits.{digit}
-use Rattle.script.specs.Records.{numberAt}
+use Rattle.script.specs.Records.{littleEndianAt}
 
 -- the n numbers of `width` bytes each that stand from `at` on
 unfoldable pub numbersAt : List ℕ → ℕ → ℕ → ℕ → List ℕ
-numbersAt bytes at width n = listed (λ i. numberAt bytes (at + width * i) width) 0 n
+numbersAt bytes at width n = listed (λ i. littleEndianAt bytes (at + width * i) width) 0 n
 
 -- the lowest bytes of a number
 unfoldable pub bytesOf : ℕ → ℕ → List ℕ

@@ -32,11 +32,11 @@ use Rattle.model.specs.declared.Phase.the-variants.{Off, Ready, Inert, Dead}
 use Rattle.model.specs.declared.Session.{Session}
 use Rattle.model.specs.Session.{entries, reasonCode}
 use Rattle.model.specs.Answers.{codeOf, valueOf}
-use Rattle.model.specs.Lent.{Machine}
-use Rattle.chip.specs.Chip.{machineOf, resultFor}
+use Rattle.model.specs.Lent.{Lent, Machine}
+use Rattle.chip.specs.Chip.{lentOf, machineOf, resultFor}
 use Rattle.script.specs.declared.Reading.{Reading}
 use Rattle.script.specs.declared.Reading.the-variants.{Record, End, Refused}
-use Rattle.script.specs.Records.{byteAt, numberAt, refusalCode, nextAt}
+use Rattle.script.specs.Records.{byteAt, littleEndianAt, refusalCode, nextAt}
 use Rattle.frames.specs.declared.Stepped.{Stepped}
 use Rattle.frames.specs.Bytes.{numbersAt, bytesOf, allBytes, zeros, _from_put_}
 
@@ -70,7 +70,7 @@ sessionIn frame =
 
 -- how many words are lent, by the number at a place, of an area that has `most`
 unfoldable pub lentIn : List ℕ → ℕ → ℕ → ℕ
-lentIn frame at most = if ltb most (numberAt frame at 2) then most else numberAt frame at 2
+lentIn frame at most = if ltb most (littleEndianAt frame at 2) then most else littleEndianAt frame at 2
 
 abbrev pub cellsIn : List ℕ → List ℕ
 cellsIn frame = numbersAt frame 144 2 (lentIn frame 104 1030)
@@ -103,8 +103,8 @@ unfoldable pub stepOf : Map → List ℕ → Machine → Step
 stepOf map script m = stepBy map (nextAt script 0) m
 
 -- what is lent after a step, with what it gave back
-abbrev pub stepWith : List ℕ → List ℕ → List ℕ → Stepped → Step
-stepWith cells copy constants s = record { machine = machineOf cells copy constants (s .session); code = s .code; value = s .value }
+abbrev pub stepWith : Lent → Stepped → Step
+stepWith l s = record { machine = machineOf l (s .session); code = s .code; value = s .value }
 
 -- what a record that is not executed gives back; a record never comes here (its clause is never asked)
 abbrev pub refusedOf : Reading → Session → Stepped
@@ -155,9 +155,9 @@ abbrev pub frameWith : Step → List ℕ → List ℕ
 frameWith s frame = withMemory (s .machine .lent .cells) (s .machine .lent .copy) (withAnswer (s .code) (s .value) (withSession (s .machine .session) frame))
 
 -- the frame out, for what is lent beside it
-abbrev pub frameOn : List ℕ → List ℕ → List ℕ → List ℕ → List ℕ
-frameOn cells copy constants frame = frameWith (stepOf (mapOf (mapIn frame)) (recordIn frame) (machineOf cells copy constants (sessionIn frame))) frame
+abbrev pub frameOn : Lent → List ℕ → List ℕ
+frameOn l frame = frameWith (stepOf (mapOf (mapIn frame)) (recordIn frame) (machineOf l (sessionIn frame))) frame
 
 -- and for what it lends itself: the frame out as a function of the frame in
 unfoldable pub frameAfter : List ℕ → List ℕ
-frameAfter frame = frameOn (cellsIn frame) (copyIn frame) (constantsIn frame) frame
+frameAfter frame = frameOn (lentOf (cellsIn frame) (copyIn frame) (constantsIn frame)) frame

@@ -10,7 +10,7 @@ ghost use mathlib.Core.Path.{_≡_};
 ghost use Prim.Native.Nat.{_≤_};
 ghost use lib.ListN.{length};
 ghost use Rattle.partitions.specs.Maps.{mapOf};
-ghost use Rattle.chip.specs.Chip.{machineOf};
+ghost use Rattle.chip.specs.Chip.{lentOf, machineOf};
 ghost use Rattle.frames.specs.Frames.{lentIn, stepOf, stepWith, refusedOf, frameOn, frameAfter};
 
 // What a step gives back beside what is lent.
@@ -52,7 +52,9 @@ fn perform(
     map: MapName,
     session: Session,
 ) -> Stepped
-    ensures { λ r. ⌜ stepWith (now (cells .exit)) (now (copy .exit)) (now (constants .entry)) r ≡ stepOf (mapOf map) (now (script .entry)) (machineOf (now (cells .entry)) (now (copy .entry)) (now (constants .entry)) session) ⌝ }
+    ensures { λ r.
+        ⌜ stepWith (lentOf (now (cells .exit)) (now (copy .exit)) (now (constants .entry))) r
+        ≡ stepOf (mapOf map) (now (script .entry)) (machineOf (lentOf (now (cells .entry)) (now (copy .entry)) (now (constants .entry))) session) ⌝ }
 {
     let reading = script::read_at(script, 0);
     let Reading::Record(command, _) = reading else {
@@ -73,7 +75,7 @@ fn perform(
 // Executes the record of a frame on what is lent, and writes what comes of it into the frame.
 fn step_on(frame: &mut [u8], cells: &mut [u16], copy: &mut [u16], constants: &[u16])
     requires { ⌜ (5120 ≡ length (now frame)) × (length (now cells) ≤ 1030) × (length (now copy) ≤ 1030) ⌝ }
-    ensures { λ _. ⌜ now (frame .exit) ≡ frameOn (now (cells .entry)) (now (copy .entry)) (now (constants .entry)) (now (frame .entry)) ⌝ }
+    ensures { λ _. ⌜ now (frame .exit) ≡ frameOn (lentOf (now (cells .entry)) (now (copy .entry)) (now (constants .entry))) (now (frame .entry)) ⌝ }
 {
     let map = reading::map_in(&frame[..]);
     let session = reading::session_in(&frame[..]);
@@ -86,7 +88,8 @@ fn step_on(frame: &mut [u8], cells: &mut [u16], copy: &mut [u16], constants: &[u
 
 // The same with buffers that are as long as the frame says: they are filled with its words first.
 fn step_over(frame: &mut [u8], cells: &mut [u16], copy: &mut [u16], constants: &mut [u16])
-    requires { ⌜ (5120 ≡ length (now frame)) × (length (now cells) ≡ lentIn (now frame) 104 1030) × (length (now copy) ≡ lentIn (now frame) 106 1030) × (length (now constants) ≡ lentIn (now frame) 110 180) ⌝ }
+    requires { ⌜ (5120 ≡ length (now frame)) × (length (now cells) ≡ lentIn (now frame) 104 1030) × (length (now copy) ≡ lentIn (now frame) 106 1030)
+        × (length (now constants) ≡ lentIn (now frame) 110 180) ⌝ }
     ensures { λ _. ⌜ now (frame .exit) ≡ frameAfter (now (frame .entry)) ⌝ }
 {
     numbers::fill_words(&frame[..], 144, cells);

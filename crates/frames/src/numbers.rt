@@ -2,7 +2,7 @@
 ghost use mathlib.Core.Path.{_≡_};
 ghost use Prim.Native.Nat.{_+_, _*_, _≤_, _<_};
 ghost use lib.ListN.{length};
-ghost use Rattle.script.specs.Records.{numberAt};
+ghost use Rattle.script.specs.Records.{littleEndianAt};
 ghost use Rattle.frames.specs.Bytes.{numbersAt, bytesOf, allBytes, zeros};
 
 // The number of two bytes, the lowest first.
@@ -15,7 +15,7 @@ fn word(low: u8, high: u8) -> u16
 // The number of the two bytes from `at` on.
 pub(crate) fn two_at(frame: &[u8], at: usize) -> u16
     requires { ⌜ at + 2 ≤ length (now frame) ⌝ }
-    ensures { λ r. ⌜ r ≡ numberAt (now (frame .entry)) at 2 ⌝ }
+    ensures { λ r. ⌜ r ≡ littleEndianAt (now (frame .entry)) at 2 ⌝ }
 {
     word(frame[at], frame[at + 1])
 }
@@ -29,7 +29,7 @@ fn wide(word: u16) -> u64
 // The number of the eight bytes from `at` on.
 pub(crate) fn eight_at(frame: &[u8], at: usize) -> u64
     requires { ⌜ at + 8 ≤ length (now frame) ⌝ }
-    ensures { λ r. ⌜ r ≡ numberAt (now (frame .entry)) at 8 ⌝ }
+    ensures { λ r. ⌜ r ≡ littleEndianAt (now (frame .entry)) at 8 ⌝ }
 {
     wide(two_at(frame, at))
         + 65536 * wide(two_at(frame, at + 2))

@@ -19,7 +19,7 @@ use Rattle.basics.proofs.Digits.{digit-lt, digit-number, number-lt, number-is}
 use Rattle.basics.proofs.Bits.{bit-and, bit-xor}
 use Rattle.keccak.specs.State.{bitAt, laneOf}
 use Rattle.keccak.specs.Rows.{Lanes}
-use Rattle.keccak.proofs.Turning.{turned-bit}
+use Rattle.keccak.proofs.Rotation.{rotated-bit}
 
 -- the 64 bits of x are f 0, f 1, ..
 pub record HasBits (x : ℕ) (f : ℕ → ℕ) : Type 0 where
@@ -56,20 +56,20 @@ module _ {x y : ℕ} {f g : ℕ → ℕ} (p : HasBits x f) where
       }
 
 module _ {x : ℕ} {f : ℕ → ℕ} (p : HasBits x f) where
-  pub turned-bits : (n : ℕ) → n < 64 → HasBits (bitOr (x * 2 ^ n % 2 ^ 64) (x / 2 ^ ((64 - n) % 64))) (λ z. f ((z + (64 - n)) % 64))
-  turned-bits n w =
+  pub rotated-bits : (n : ℕ) → n < 64 → HasBits (bitOr (x * 2 ^ n % 2 ^ 64) (x / 2 ^ ((64 - n) % 64))) (λ z. f ((z + (64 - n)) % 64))
+  rotated-bits n w =
       record {
         below = or-lt 64 _ _ (mod-lt (x * 2 ^ n) (pow-pos 64)) (omega (arith, p .below, shr-le x ((64 - n) % 64)));
-        each = λ z h. turned-bit x n (p .below) w z h ∙ p .each _ (mod-lt (z + (64 - n)) (lit< tt));
+        each = λ z h. rotated-bit x n (p .below) w z h ∙ p .each _ (mod-lt (z + (64 - n)) (lit< tt));
       }
 
   -- bits that are said in another way
   pub changed : {g : ℕ → ℕ} → ((z : ℕ) → f z ≡ g z) → HasBits x g
   changed e = record { below = p .below; each = λ z h. p .each z h ∙ e z }
 
-  -- a lane that is made of these bits, turned
-  pub turned-has : {r : ℕ} (n : ℕ) → r ≡ laneOf (λ z. bit x ((z + n) % 64)) → HasBits r (λ z. f ((z + n) % 64))
-  turned-has n e =
+  -- a lane that is made of these bits, rotated
+  pub rotated-has : {r : ℕ} (n : ℕ) → r ≡ laneOf (λ z. bit x ((z + n) % 64)) → HasBits r (λ z. f ((z + n) % 64))
+  rotated-has n e =
       let q = lane-bits (λ z. bit x ((z + n) % 64)) (λ z. digit-lt 2 (lit< tt) x ((z + n) % 64)) in
       rw e (record { below = q .below; each = λ z h. q .each z h ∙ p .each _ (mod-lt (z + n) (lit< tt)) })
 
@@ -77,7 +77,7 @@ module _ {x : ℕ} {f : ℕ → ℕ} (p : HasBits x f) where
   pub is-lane : x ≡ laneOf f
   is-lane = sym (number-is 2 (lit< tt) 64 x f (p .below) (λ z h. sym (p .each z h)))
 
--- what an array of lanes tells
+-- what an array of lanes shows
 pub lanes-fit : {a : List ℕ} → ((k : ℕ) → Fits w64 (getD a k 0)) → Lanes a
 lanes-fit h = record { below = λ k. h k .fits }
 

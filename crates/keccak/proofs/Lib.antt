@@ -1,4 +1,4 @@
-pub mod Turning
+pub mod Rotation
 pub mod Lanes
 pub mod Rows
 pub mod Steps

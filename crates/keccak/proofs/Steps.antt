@@ -19,7 +19,7 @@ use Rattle.keccak.specs.State.{bitAt, laneOf, stateOf}
 use Rattle.keccak.specs.StepMappings.{columnParity, thetaBit, offset, rhoBit, piBit, chiBit, register, rc, roundConstant, iotaBit, iota}
 use Rattle.keccak.specs.Tables.{offsets, roundConstants}
 use Rattle.keccak.specs.Rows.{Lanes}
-use Rattle.keccak.proofs.Lanes.{HasBits, ones-bits, own-bits, xor-bits, and-bits, is-lane, lane-bits, lane-at, changed, turned-has}
+use Rattle.keccak.proofs.Lanes.{HasBits, ones-bits, own-bits, xor-bits, and-bits, is-lane, lane-bits, lane-at, changed, rotated-has}
 use Rattle.keccak.proofs.Rows.{laneAt}
 
 -- ---- theta
@@ -48,13 +48,13 @@ module _ {a : List ℕ} (l : Lanes a) (x : ℕ) where
       at : (y k : ℕ) → k ≡ 5 * y + x → HasBits (getD a k 0) (bitAt a x y)
       at = lane-at l x
 
-  -- `turned` is the parities of the column after, turned by one
-  pub theta-lane : (y : ℕ) (ps : List ℕ) → Parities a ps → (turned : ℕ) → turned ≡ laneOf (λ z. bit (getD ps ((x + 1) % 5) 0) ((z + 63) % 64))
-      → bitXor (getD a (5 * y + x) 0) (bitXor (getD ps ((x + 4) % 5) 0) turned) ≡ laneOf (thetaBit a x y)
-  theta-lane y ps e turned t =
+  -- `rotated` is the parities of the column after, rotated by one
+  pub theta-lane : (y : ℕ) (ps : List ℕ) → Parities a ps → (rotated : ℕ) → rotated ≡ laneOf (λ z. bit (getD ps ((x + 1) % 5) 0) ((z + 63) % 64))
+      → bitXor (getD a (5 * y + x) 0) (bitXor (getD ps ((x + 4) % 5) 0) rotated) ≡ laneOf (thetaBit a x y)
+  theta-lane y ps e rotated t =
       let before = parity-at a ps e ((x + 4) % 5) (mod-lt (x + 4) (lit< tt)) in
       let after = parity-at a ps e ((x + 1) % 5) (mod-lt (x + 1) (lit< tt)) in
-      is-lane (xor-bits (lane-at l x y _ refl) (xor-bits before (turned-has after 63 t)))
+      is-lane (xor-bits (lane-at l x y _ refl) (xor-bits before (rotated-has after 63 t)))
 
 -- ---- rho
 

@@ -29,13 +29,13 @@ theta a = stateOf (thetaBit a)
 -- ---- rho, algorithm 2
 
 -- the lane of step t: "Let (x, y) = (1, 0)", and after each step "let (x, y) = (y, (2x + 3y) mod 5)"
-unfoldable pub walk : ℕ → ℕ × ℕ
-walk zero = (1, 0)
-walk (suc t) = (walk t .1, (2 * walk t .0 + 3 * walk t .1) % 5)
+unfoldable pub rhoPosition : ℕ → ℕ × ℕ
+rhoPosition zero = (1, 0)
+rhoPosition (suc t) = (rhoPosition t .1, (2 * rhoPosition t .0 + 3 * rhoPosition t .1) % 5)
 
 -- "For t from 0 to 23: .. (t + 1)(t + 2)/2": the offset of the one step at the lane; lane (0, 0), where no step is, stays
 unfoldable pub offset : ℕ → ℕ → ℕ
-offset x y = sum 24 (λ t. if eqb (walk t .0) x && eqb (walk t .1) y then (t + 1) * (t + 2) / 2 else 0)
+offset x y = sum 24 (λ t. if eqb (rhoPosition t .0) x && eqb (rhoPosition t .1) y then (t + 1) * (t + 2) / 2 else 0)
 
 -- "A′[x, y, z] = A[x, y, (z - (t + 1)(t + 2)/2) mod w]"
 abbrev pub rhoBit : List ℕ → ℕ → ℕ → ℕ → ℕ
@@ -62,16 +62,16 @@ chi a = stateOf (chiBit a)
 
 -- ---- iota, algorithms 5 and 6
 
--- one turn of the register R of eight bits, held as a number with R[0] lowest: "R = 0 || R", R[8] is added to R[0], R[4], R[5] and R[6], and "R = Trunc8[R]"
-unfoldable pub turned : ℕ → ℕ
-turned r = number 2 8 (λ i. if eqb i 0 || eqb i 4 || eqb i 5 || eqb i 6 then bitXor (bit (2 * r) i) (bit (2 * r) 8) else bit (2 * r) i)
+-- one step of the register R of eight bits, held as a number with R[0] lowest: "R = 0 || R", R[8] is added to R[0], R[4], R[5] and R[6], and "R = Trunc8[R]"
+unfoldable pub registerStep : ℕ → ℕ
+registerStep r = number 2 8 (λ i. if eqb i 0 || eqb i 4 || eqb i 5 || eqb i 6 then bitXor (bit (2 * r) i) (bit (2 * r) 8) else bit (2 * r) i)
 
--- the register after t turns: "R = 10000000" at first
+-- the register after t steps: "R = 10000000" at first
 unfoldable pub register : ℕ → ℕ
 register zero = 1
-register (suc t) = turned (register t)
+register (suc t) = registerStep (register t)
 
--- "If t mod 255 = 0, return 1"; else t mod 255 turns, and "Return R[0]"
+-- "If t mod 255 = 0, return 1"; else t mod 255 steps, and "Return R[0]"
 unfoldable pub rc : ℕ → ℕ
 rc t = bit (register (t % 255)) 0
 

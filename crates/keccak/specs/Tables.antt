@@ -4,7 +4,7 @@ use mathlib.Core.List.{List}
 use Rattle.basics.specs.Range.{listed}
 use Rattle.keccak.specs.StepMappings.{offset, roundConstant}
 
--- how far rho turns each lane, modulo the lane's 64 bits
+-- how far rho rotates each lane, modulo the lane's 64 bits
 unfoldable pub offsets : List ℕ
 offsets = listed (λ k. offset (k % 5) (k / 5) % 64) 0 25
 

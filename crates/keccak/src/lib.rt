@@ -16,7 +16,7 @@ const ROUNDS: usize = 24;
 
 const ONES: u64 = 0xffff_ffff_ffff_ffff;
 
-// A lane turned by n: bit z comes from bit z - n.
+// A lane rotated by n: bit z comes from bit z - n.
 fn rotated(lane: u64, n: u64) -> u64
     requires { ⌜ n < 64 ⌝ }
     ensures { λ r. ⌜ r ≡ laneOf (λ z. bit lane ((z + (64 - n)) % 64)) ⌝ }

@@ -2,7 +2,7 @@
 ghost use mathlib.Core.Path.{_≡_};
 ghost use Rattle.keccak.specs.Tables.{offsets, roundConstants};
 
-// How far rho turns lane 5 * y + x; a line for each y.
+// How far rho rotates lane 5 * y + x; a line for each y.
 const OFFSETS: [u64; 25] = [
     0,
     1,

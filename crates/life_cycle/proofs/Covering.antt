@@ -19,10 +19,10 @@ use Rattle.words.proofs.Rules.{loses-none, or-keeps}
 use Rattle.words.proofs.Programming.{covered-done}
 use Rattle.life_cycle.specs.declared.Token.{Token}
 use Rattle.life_cycle.specs.declared.Entry.the-variants.{Allowed}
-use Rattle.life_cycle.specs.Constants.{constA, constB, constC, constD, validConstants}
+use Rattle.constants.specs.Constants.{constA, constB, constC, constD, validConstants}
 use Rattle.life_cycle.specs.Words.{counterWord, counterWords, hasB, stateWord, stateWords}
-use Rattle.life_cycle.specs.Transitions.{transition}
-use Rattle.life_cycle.proofs.Constants.{Pair, counter-pair, state-pair}
+use Rattle.life_cycle.specs.Transitions.{tableEntry}
+use Rattle.constants.proofs.Constants.{Pair, counter-pair, state-pair}
 use Rattle.life_cycle.proofs.Encoding.{coded, counter-length, counter-at, state-length, state-at}
 use Rattle.life_cycle.proofs.Table.{allowed-ends, marks-grow}
 
@@ -51,7 +51,7 @@ module _ (constants : List ℕ) (valid : validConstants constants ≡ true) wher
       coded-keeps (λ n i. ltb i n) (constC constants) (constD constants) n (suc n) i (counter-pair constants valid i h) (λ z. omega arith)
       (λ z t. lt-ltb i (suc n) (omega (arith, ltb-true i n t)))
 
-  pub transition-keeps : (s t i : ℕ) {tok : Token} → transition s t ≡ Allowed tok → i < 20
+  pub transition-keeps : (s t i : ℕ) {tok : Token} → tableEntry s t ≡ Allowed tok → i < 20
       → losesBit (stateWord constants s i) (stateWord constants t i) ≡ false
   unfolding stateWord
   transition-keeps s t i e h =
@@ -65,7 +65,7 @@ module _ (constants : List ℕ) (valid : validConstants constants ≡ true) wher
       covering 24 c _ _ at (counter-length constants (suc n)) e
       (λ i h. rw (counter-at constants n i h, counter-at constants (suc n) i h) (stroke-keeps n i h))
 
-  pub transition-done : (c : List ℕ) (at s t : ℕ) {tok : Token} → partAt c at 20 ≡ stateWords constants s → transition s t ≡ Allowed tok
+  pub transition-done : (c : List ℕ) (at s t : ℕ) {tok : Token} → partAt c at 20 ≡ stateWords constants s → tableEntry s t ≡ Allowed tok
       → programAnswer KeepBits c at (stateWords constants t) ≡ Done
   transition-done c at s t e a =
       covering 20 c _ _ at (state-length constants t) e (λ i h. rw (state-at constants s i h, state-at constants t i h) (transition-keeps s t i a h))

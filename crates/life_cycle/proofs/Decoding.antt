@@ -11,7 +11,7 @@ use borrow.Author.Tests.{eqb-true, eqb-false, eq-eqb, ne-eqb, not-false}
 use Rattle.basics.proofs.Choice.{by-cases, true-not-false, not-passed, and-left, and-right, and-both, if-true, if-false}
 use Rattle.words.proofs.Words.{Words}
 use Rattle.life_cycle.specs.declared.LifeCycle.the-variants.{Valid, Invalid}
-use Rattle.life_cycle.specs.Constants.{validConstants}
+use Rattle.constants.specs.Constants.{validConstants}
 use Rattle.life_cycle.specs.Words.{counterWords, stateWords, sameWords, encodedBy, lifeCycleOf, decoded}
 use Rattle.life_cycle.proofs.Distinct.{counter-distinct, state-distinct}
 

@@ -13,9 +13,9 @@ use Rattle.basics.specs.Range.{allBelow, anyBelow}
 use Rattle.basics.proofs.Choice.{to-T}
 use Rattle.basics.proofs.Range.{all-at, none-below}
 use Rattle.words.proofs.Words.{Words}
-use Rattle.life_cycle.specs.Constants.{constA, constB, constC, constD, validConstants}
+use Rattle.constants.specs.Constants.{constA, constB, constC, constD, validConstants}
 use Rattle.life_cycle.specs.Words.{counterWord, counterWords, hasB, stateWord, stateWords}
-use Rattle.life_cycle.proofs.Constants.{Pair, upper-nonzero, counter-pair, state-pair}
+use Rattle.constants.proofs.Constants.{Pair, upper-nonzero, counter-pair, state-pair}
 use Rattle.life_cycle.proofs.Encoding.{coded, counter-at, state-at}
 
 -- 0 for a blank word, 1 for a lower and 2 for an upper constant

@@ -1,4 +1,3 @@
-pub mod Constants
 pub mod Encoding
 pub mod Table
 pub mod Covering

@@ -13,7 +13,7 @@ use Rattle.life_cycle.specs.declared.Token.{Token}
 use Rattle.life_cycle.specs.declared.Entry.{Entry}
 use Rattle.life_cycle.specs.declared.Entry.the-variants.{Allowed, Forbidden}
 use Rattle.life_cycle.specs.Words.{hasB}
-use Rattle.life_cycle.specs.Transitions.{isTest, isUnlocked, isLocked, testIndex, transition}
+use Rattle.life_cycle.specs.Transitions.{isTest, isUnlocked, isLocked, testIndex, tableEntry}
 
 -- ---- the computed test
 
@@ -26,10 +26,10 @@ grows : ℕ → ℕ → Bool
 grows s t = allBelow 20 (λ i. eqb s 0 || not (hasB s i) || hasB t i)
 
 unmarks-none : ℕ → ℕ → Bool
-unmarks-none s t = not (allows (transition s t)) || grows s t
+unmarks-none s t = not (allows (tableEntry s t)) || grows s t
 
 table-grows : T (allBelow 21 (λ s. allBelow 21 (unmarks-none s)))
-unfolding allBelow unmarks-none allows grows transition isUnlocked isLocked isTest testIndex hasB if_then_else_
+unfolding allBelow unmarks-none allows grows tableEntry isUnlocked isLocked isTest testIndex hasB if_then_else_
 table-grows = tt
 
 -- ---- the ends, row by row
@@ -85,12 +85,12 @@ module _ (s t : ℕ) where
       → (if b then Allowed need else below) ≡ Allowed tok → Ends s t
   row b need here rest e = by-cases b here (λ q. rest (sym (if-false _ _ q) ∙ e))
 
-  pub allowed-ends : {tok : Token} → transition s t ≡ Allowed tok → Ends s t
-  unfolding transition
+  pub allowed-ends : {tok : Token} → tableEntry s t ≡ Allowed tok → Ends s t
+  unfolding tableEntry
   allowed-ends = row _ _ raw (row _ _ lock (row _ _ unlock (row _ _ leave (row _ _ test-rma (row _ _ rma (row _ _ scrap none))))))
 
 -- what the computed test says
-pub marks-grow : (s t i : ℕ) {tok : Token} → transition s t ≡ Allowed tok → i < 20 → (s ≡ 0 → ⊥) → hasB s i ≡ true → hasB t i ≡ true
+pub marks-grow : (s t i : ℕ) {tok : Token} → tableEntry s t ≡ Allowed tok → i < 20 → (s ≡ 0 → ⊥) → hasB s i ≡ true → hasB t i ≡ true
 unfolding unmarks-none grows allows
 marks-grow s t i e h z m =
     let ends = allowed-ends s t e in

@@ -1,3 +1,2 @@
-pub mod Constants
 pub mod Words
 pub mod Transitions

@@ -24,8 +24,8 @@ testIndex state = (state - 1) / 2
 -- "Allowed: RAW to TEST_UNLOCKED0 (RAW token). TEST_UNLOCKEDn to TEST_LOCKEDm, m at least n (none). TEST_LOCKEDn to TEST_UNLOCKEDm, m above n
 -- (TEST_UNLOCK). TEST_* to DEV, PROD, PROD_END (TEST_EXIT). TEST_UNLOCKEDn to RMA (none). DEV, PROD to RMA (RMA token). Any but SCRAP to
 -- SCRAP (none)." DEV is 16, PROD 17, PROD_END 18, RMA 19 and SCRAP 20.
-unfoldable pub transition : ℕ → ℕ → Entry
-transition from to =
+unfoldable pub tableEntry : ℕ → ℕ → Entry
+tableEntry from to =
     if eqb from 0 && eqb to 1 then Allowed RawUnlock
     else if isUnlocked from && isLocked to && leb (testIndex from) (testIndex to) then Allowed Nothing
     else if isLocked from && isUnlocked to && ltb (testIndex from) (testIndex to) then Allowed TestUnlock

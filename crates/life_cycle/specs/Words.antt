@@ -8,7 +8,7 @@ use Rattle.basics.specs.Choice.{if_then_else_}
 use Rattle.basics.specs.Range.{listed}
 use Rattle.life_cycle.specs.declared.LifeCycle.{LifeCycle}
 use Rattle.life_cycle.specs.declared.LifeCycle.the-variants.{Valid, Invalid}
-use Rattle.life_cycle.specs.Constants.{constA, constB, constC, constD}
+use Rattle.constants.specs.Constants.{constA, constB, constC, constD}
 
 -- "Count 0: all 24 counter words zero. Count n: words below n are D, the rest C."
 unfoldable pub counterWord : List ℕ → ℕ → ℕ → ℕ

@@ -2,11 +2,8 @@
 ghost use mathlib.Core.Option.{some};
 ghost use mathlib.Core.Path.{_≡_};
 ghost use Prim.Native.Nat.{_+_, _<_};
-ghost use lib.ListN.{getD};
-ghost use Rattle.basics.specs.Range.{allBelow};
-ghost use Rattle.life_cycle.specs.Constants.{pairValid, validConstants};
 ghost use Rattle.life_cycle.specs.Words.{counterWord, counterWords, hasB, stateWord, stateWords, sameWords, encodedBy, lifeCycleOf, decoded};
-ghost use Rattle.life_cycle.specs.Transitions.{isTest, isUnlocked, isLocked, testIndex, transition};
+ghost use Rattle.life_cycle.specs.Transitions.{isTest, isUnlocked, isLocked, testIndex, tableEntry};
 
 // The states by their numbers. TEST_UNLOCKEDn is 2n + 1, TEST_LOCKEDn is 2n + 2.
 pub const RAW: u8 = 0;
@@ -27,15 +24,6 @@ pub const SCRAP: u8 = 20;
 
 // The most strokes there are.
 pub const STROKES: u8 = 24;
-
-// Where the constants of the life cycle stand among all constants.
-const FIRST_C: usize = 36;
-
-const FIRST_D: usize = 60;
-
-const FIRST_A: usize = 84;
-
-const FIRST_B: usize = 104;
 
 // What the life cycle words stand for: a state number and a stroke count.
 pub enum LifeCycle {
@@ -58,44 +46,6 @@ pub enum Entry {
     Forbidden,
 }
 
-// The word at an index, and 0 past the end.
-fn word_at(words: &[u16], i: usize) -> u16
-    ensures { λ r. ⌜ r ≡ getD (now (words .entry)) i 0 ⌝ }
-{
-    if i < words.len() { words[i] } else { 0 }
-}
-
-// A lower constant is nonzero, differs from its upper one and has no bit that the upper one lacks.
-fn pair_valid(low: u16, up: u16) -> bool
-    ensures { λ r. ⌜ r ≡ pairValid low up ⌝ }
-{
-    let joined = low | up;
-    (low != 0) & (low != up) & (joined == up)
-}
-
-// The n lower constants from `low` on and their upper ones from `up` on are valid pairs. No early return: it runs faster so.
-fn pairs_valid(constants: &[u16], low: usize, up: usize, n: usize) -> bool
-    requires { ⌜ (low + n < 1000) × (up + n < 1000) ⌝ }
-    ensures { λ r. ⌜ r ≡ allBelow n (λ i. pairValid (getD (now (constants .entry)) (low + i) 0) (getD (now (constants .entry)) (up + i) 0)) ⌝ }
-{
-    let mut valid = true;
-    let mut i = 0;
-    while i < n {
-        valid = pair_valid(word_at(constants, low + i), word_at(constants, up + i)) & valid;
-        i += 1;
-    }
-    valid
-}
-
-// All pairs of the life cycle's constants are valid.
-pub fn valid_constants(constants: &[u16]) -> bool
-    ensures { λ r. ⌜ r ≡ validConstants (now (constants .entry)) ⌝ }
-{
-    let counter = pairs_valid(constants, FIRST_C, FIRST_D, 24);
-    let state = pairs_valid(constants, FIRST_A, FIRST_B, 20);
-    counter & state
-}
-
 // Word i of a stroke count.
 fn counter_word(constants: &[u16], count: u8, i: usize) -> u16
     requires { ⌜ i < 24 ⌝ }
@@ -106,9 +56,9 @@ fn counter_word(constants: &[u16], count: u8, i: usize) -> u16
     }
     let n = count as usize;
     if i < n {
-        word_at(constants, FIRST_D + i)
+        words::word_at(constants, constants::FIRST_D + i)
     } else {
-        word_at(constants, FIRST_C + i)
+        words::word_at(constants, constants::FIRST_C + i)
     }
 }
 
@@ -149,9 +99,9 @@ fn state_word(constants: &[u16], state: u8, i: usize) -> u16
     }
     let upper = has_b(state, i);
     if upper {
-        word_at(constants, FIRST_B + i)
+        words::word_at(constants, constants::FIRST_B + i)
     } else {
-        word_at(constants, FIRST_A + i)
+        words::word_at(constants, constants::FIRST_A + i)
     }
 }
 
@@ -248,8 +198,8 @@ fn test_index(state: u8) -> u8
 }
 
 // The entry of the transition table, row by row.
-pub fn transition(from: u8, to: u8) -> Entry
-    ensures { λ r. ⌜ r ≡ transition from to ⌝ }
+pub fn table_entry(from: u8, to: u8) -> Entry
+    ensures { λ r. ⌜ r ≡ tableEntry from to ⌝ }
 {
     let n = test_index(from);
     let m = test_index(to);

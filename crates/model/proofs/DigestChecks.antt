@@ -9,7 +9,7 @@ use native.Mathlib.Nat.{mod-eq-of-lt}
 use native.Mathlib.Omega.{arith}
 use lib.Dec.{eqb}
 use lib.ListN.{length, getD}
-use borrow.Author.Tests.{eqb-true, eqb-false, eq-eqb, leb-false, lt-leb, not-false}
+use borrow.Author.Tests.{eqb-true, eqb-false, eq-eqb, not-false}
 use Rattle.basics.proofs.Choice.{true-not-false, not-passed, by-cases, if-both, if-false, and-both}
 use Rattle.words.specs.declared.Rule.{Rule}
 use Rattle.words.specs.Words.{numberOf, wordsOf}
@@ -27,21 +27,24 @@ use Rattle.model.specs.declared.Answer.the-variants.{Done}
 use Rattle.model.specs.declared.Command.{Command}
 use Rattle.model.specs.declared.Command.the-variants.{Write, Digest}
 use Rattle.model.specs.Answers.{codeOf}
-use Rattle.model.specs.Lent.{Machine, Primitives, digestStart, digestFinal}
-use Rattle.model.specs.Acts.{Act, stay, say, program, perform}
+use Rattle.constants.specs.Constants.{digestStart, digestFinal}
+use Rattle.model.specs.Lent.{Machine, Primitives}
+use Rattle.model.specs.Acts.{Act, noEffect, say, program, perform}
 use Rattle.model.specs.Commands.{digestRule, storedDigest, dataWords, computedDigest, digestAct, commandAct, readyAct}
 use Rattle.model.specs.PowerUp.{digestHolds}
 use Rattle.model.specs.Step.{Step, unchanged, performed, act, powerUp, obey, after, machineAfter, answerTo}
-use Rattle.model.specs.Claims.Terms.{Right, Digested, SamePartition, Put, DigestFits, CellsFit}
-use Rattle.model.specs.Claims.Digests.{sparesData, SparedData, digestNow, Digestible}
-use Rattle.model.proofs.Acts.{Burnt, left, burnt, perform-once, after-both, after-done}
-use Rattle.model.proofs.Frame.{Aim, by-aim, aimless-word}
-use Rattle.model.proofs.Steps.{outcome, step-both, step-all, step-obeys, step-right, step-constants, cells-length}
+use Rattle.model.specs.Claims.Terms.{ValidInputs, Digested, SamePartition, Put, DigestFits, writingOf, writesNothing}
+use Rattle.model.specs.Claims.Digests.{dataNotWritten, DataNotWritten, digestNow, Digestible}
+use Rattle.model.proofs.Acts.{after-both, after-done}
+use Rattle.model.proofs.Frame.{programs-nowhere, programs-none-word}
+use Rattle.model.proofs.Steps.{outcome, step-both, step-all, step-obeys, step-inputs, step-constants, cells-length}
 use Rattle.model.proofs.Locks.{stored-same}
 use Rattle.model.proofs.Digests.{digest-taken, computed-word}
-use Rattle.model.proofs.Targets.{Written, Computed, write-once, digest-once}
 use Rattle.model.proofs.TransitionCells.{put-words}
-use Rattle.model.proofs.WordSizes.{step-small}
+use Rattle.model.proofs.Targets.{WriteBurns, left, DigestBurns, burnt, write-burnt, digest-burnt}
+use Rattle.model.proofs.Forms.{computed}
+use Rattle.model.proofs.Classes.{by-writing}
+use Rattle.model.proofs.Guards.{allowed-both, digest-guards, digest-open, allowed-there, allowed-below}
 
 or-true : (a : Bool) → (a || true) ≡ true
 or-true true = refl
@@ -53,12 +56,13 @@ data-small : (p : Partition) (cells : List ℕ) → ((i : ℕ) → getD cells i 
 unfolding dataWords
 data-small p cells w i = part-words {c = cells} (record { small = w }) _ _ .small i
 
-pub digest-small : (prims : Primitives) → DigestFits prims → (map : Map) (m : Machine) → Right map m → CellsFit m → (p : Partition)
+pub digest-small : (prims : Primitives) → DigestFits prims → (map : Map) (m : Machine) → ValidInputs map m → (p : Partition)
     → computedDigest prims (m .lent .constants) p (m .lent .cells) < 2 ^ 64
 unfolding computedDigest digestStart digestFinal
-digest-small prims G map m r w p =
-    G .fits _ _ _ (part-number-lt {c = m .lent .constants} (record { small = r .words }) 24 4) (part-number-lt {c = m .lent .constants} (record { small = r .words }) 28 8)
-    (data-small p (m .lent .cells) w)
+digest-small prims G map m r p =
+    G .fits _ _ _ (part-number-lt {c = m .lent .constants} (record { small = r .words }) 24 4)
+    (part-number-lt {c = m .lent .constants} (record { small = r .words }) 28 8)
+    (data-small p (m .lent .cells) (r .fuses))
 
 module _ (prims : Primitives) (map : Map) (F : fit map ≡ true) (n : ℕ) (D : Digested map n) where
   abbrev p : Partition
@@ -95,7 +99,8 @@ module _ (prims : Primitives) (map : Map) (F : fit map ≡ true) (n : ℕ) (D : 
   -- words programmed outside the partition leave it
   others-same : (rule : Rule) (c words : List ℕ) (at : ℕ) → ((j : ℕ) → at ≤ j → j < at + length words → numberAt map (2 * j) ≡ n → ⊥)
       → SamePartition map n c (programCells rule c at words)
-  others-same rule c words at h = record { at = λ j lo hi. sym (program-elsewhere rule c words at j (λ from upto. h j from upto (only map F (D .known) lo hi))) }
+  others-same rule c words at h =
+      record { at = λ j lo hi. sym (program-elsewhere rule c words at j (λ from upto. h j from upto (only map F (D .known) lo hi))) }
 
   module _ (hard : rightsOf (p .kind) .hardware ≡ true) (G : DigestFits prims) where
     abbrev Holds : List ℕ → List ℕ → Type 0
@@ -103,69 +108,82 @@ module _ (prims : Primitives) (map : Map) (F : fit map ≡ true) (n : ℕ) (D : 
 
     abbrev Keeps : Command → Machine → Type 0
     Keeps x m =
-        Right map m → CellsFit m → Holds (m .lent .constants) (m .lent .cells) → sparesData map n x (outcome prims map x m .answer)
+        ValidInputs map m → Holds (m .lent .constants) (m .lent .cells) → dataNotWritten map n x (outcome prims map x m .answer)
         → Holds (m .lent .constants) (outcome prims map x m .cells)
 
     write-keeps : (m : Machine) (a value : ℕ) → Keeps (Write a value) m
-    write-keeps m a value r w h s = go (perform-once (write-once prims map m a value) (m .lent .copy) (m .lent .cells))
+    write-keeps m a value r h s = go (write-burnt prims map m a value)
       where
-        go : Burnt (Written prims map m a value) (m .lent .cells) (outcome prims map (Write a value) m) → Holds (m .lent .constants) (outcome prims map (Write a value) m .cells)
+        go : WriteBurns prims map m a value (outcome prims map (Write a value) m) → Holds (m .lent .constants) (outcome prims map (Write a value) m .cells)
         go (left e) = rw e h
-        go (burnt {words = words} q k f e) =
+        go (burnt q k f e) =
             by-cases (eqb (numberAt map a) n)
             (λ t.
             (let i = eqb-true (numberAt map a) n t in
             let b = partition-at map a i in
             let firm : rightsOf (partitionAt map a .kind) .hardware ≡ true = rw b hard in
-            let soft = not-passed (inDigest (partitionAt map a) a) (λ d. true-not-false (and-both _ _ firm d) (q .not-digest)) in
+            let soft = not-passed (inDigest (partitionAt map a) a) (λ d. true-not-false (and-both _ _ firm d) (q .guards .notDigest)) in
             absurd (s i soft (ap codeOf e))))
-            (λ t. sym (rw f (holds-same _ _ _ (others-same _ (m .lent .cells) words _
-            (λ j from upto i. eqb-false _ _ t (sym (word-number map F (q .below) (rw (q .place) at from) (rw (q .place, q .holds, length-words) at upto)) ∙ i))))) ∙ h)
+            (λ t. sym (rw f (holds-same _ _ _ (others-same _ (m .lent .cells) _ _
+            (λ j from upto i. eqb-false _ _ t (sym (word-number map F (q .below) from (rw length-words at upto)) ∙ i))))) ∙ h)
 
     digest-keeps : (m : Machine) (a : ℕ) → Keeps (Digest a) m
-    digest-keeps m a r w h s = go (perform-once (digest-once prims map m a) (m .lent .copy) (m .lent .cells))
+    digest-keeps m a r h s = go (digest-burnt prims map m a)
       where
-        k : List ℕ
-        k = m .lent .constants
+        value : ℕ
+        value = computed prims map m a
 
-        go : Burnt (Computed prims map m a) (m .lent .cells) (outcome prims map (Digest a) m) → Holds (m .lent .constants) (outcome prims map (Digest a) m .cells)
+        go : DigestBurns prims map m a (outcome prims map (Digest a) m) → Holds (m .lent .constants) (outcome prims map (Digest a) m .cells)
         go (left e) = rw e h
-        go (burnt {rule = rule} {at = at} {words = words} {value = value} q t f e) =
+        go (burnt q t f e) =
             by-cases (eqb (numberAt map a) n)
             (λ u.
             (let b = partition-at map a (eqb-true (numberAt map a) n u) in
-            let place : at ≡ p .digest / 2 = rw b at (q .place) in
-            let is : value ≡ computedDigest prims (m .lent .constants) p (m .lent .cells) = rw b at (q .answer) in
-            let after : outcome prims map (Digest a) m .cells ≡ programCells rule (m .lent .cells) (p .digest / 2) (wordsOf 4 value) = f ∙ ap₂ (λ (i : ℕ) (ws : List ℕ). programCells rule (m .lent .cells) i ws) place (q .holds) in
-            let fits : value < 2 ^ 64 = rw is (digest-small prims G map m r w p) in
-            let stored = digest-taken prims map F n D rule m r value (rw (place, q .holds) at t) in
-            let untouched = data-same (m .lent .cells) (programCells rule (m .lent .cells) (p .digest / 2) (wordsOf 4 value)) (λ j lo hi. sym (program-elsewhere rule (m .lent .cells) (wordsOf 4 value) (p .digest / 2) j (λ from upto. omega (arith, partition-fit map F (D .known) .digest-aligned)))) in
+            let place : partitionAt map a .digest / 2 ≡ p .digest / 2 = ap (λ (q : Partition). q .digest / 2) b in
+            let is : value ≡ computedDigest prims (m .lent .constants) p (m .lent .cells) =
+            (ap (λ (q : Partition). computedDigest prims (m .lent .constants) q (m .lent .cells)) b) in
+            let after : outcome prims map (Digest a) m .cells
+            ≡ programCells digestRule (m .lent .cells) (p .digest / 2) (wordsOf 4 value) =
+            (f ∙ ap (λ (i : ℕ). programCells digestRule (m .lent .cells) i (wordsOf 4 (computed prims map m a))) place) in
+            let fits : value < 2 ^ 64 = rw is (digest-small prims G map m r p) in
+            let stored = digest-taken prims map F n D digestRule m r value (rw place at t) in
+            let untouched = data-same (m .lent .cells) (programCells digestRule (m .lent .cells) (p .digest / 2) (wordsOf 4 value))
+            (λ j lo hi. sym (program-elsewhere digestRule (m .lent .cells) (wordsOf 4 value) (p .digest / 2) j
+            (λ from upto. omega (arith, partition-fit map F (D .known) .digest-aligned)))) in
             rw after (equal-holds (m .lent .constants) _ (sym stored ∙ mod-eq-of-lt fits ∙ is ∙ computed-same (m .lent .constants) _ _ untouched))))
-            (λ u. sym (rw f (holds-same _ _ _ (others-same _ (m .lent .cells) words _ (λ j from upto i. eqb-false _ _ u (sym (computed-word prims map F n D q j from upto) ∙ i))))) ∙ h)
+            (λ u. sym (rw f (holds-same _ _ _
+            (others-same _ (m .lent .cells) _ _
+            (λ j from upto i. eqb-false _ _ u (sym (computed-word prims map F n D q j from (rw length-words at upto)) ∙ i))))) ∙ h)
 
-    aimless-keeps : (m : Machine) (x : Command) → ((j : ℕ) → Aim map x j → ⊥) → Keeps x m
-    aimless-keeps m x aim r w h s =
-        sym (holds-same (m .lent .constants) (m .lent .cells) _ (record { at = λ j lo hi. sym (aimless-word prims map F m x j (rw (partition-at map (2 * j) (only map F (D .known) lo hi)) (D .direct)) (aim j)) })) ∙ h
+    programs-none-keeps : (m : Machine) (x : Command) → writingOf x ≡ writesNothing → Keeps x m
+    programs-none-keeps m x aim r h s =
+        sym (holds-same (m .lent .constants) (m .lent .cells) _
+        (record {
+          at = λ j lo hi. sym (programs-none-word prims map F m x j (rw (partition-at map (2 * j) (only map F (D .known) lo hi)) (D .direct))
+              (programs-nowhere map x aim j));
+        })) ∙ h
 
     keeps : (m : Machine) (x : Command) → Keeps x m
-    keeps m = by-aim map (λ (x : Command). Keeps x m) (write-keeps m) (digest-keeps m) (aimless-keeps m)
+    keeps m = by-writing (λ (x : Command). Keeps x m) (write-keeps m) (digest-keeps m) (programs-none-keeps m)
 
     -- whatever the command, the check's result stays, unless data of the partition are written
-    pub step-holds : (x : Command) (m : Machine) → Right map m → CellsFit m → Holds (m .lent .constants) (m .lent .cells) → sparesData map n x (answerTo prims map x m)
+    pub step-holds : (x : Command) (m : Machine) → ValidInputs map m → Holds (m .lent .constants) (m .lent .cells)
+        → dataNotWritten map n x (answerTo prims map x m)
         → Holds (m .lent .constants) (machineAfter prims map x m .lent .cells)
     unfolding unchanged act performed powerUp
-    step-holds x m r w h =
-        step-all prims map (λ (s : Step). sparesData map n x (s .result .answer) → Holds (m .lent .constants) (s .result .machine .lent .cells)) x m (λ answer e s. h) (λ s. h)
-        (λ s. keeps m x r w h s)
+    step-holds x m r h =
+        step-all prims map (λ (s : Step). dataNotWritten map n x (s .result .answer) → Holds (m .lent .constants) (s .result .machine .lent .cells)) x m
+        (λ answer e s. h) (λ s. h)
+        (λ s. keeps m x r h s)
 
-    pub after-holds : (l : List Command) (m : Machine) → Right map m → CellsFit m → Holds (m .lent .constants) (m .lent .cells) → SparedData prims map n l m
+    pub after-holds : (l : List Command) (m : Machine) → ValidInputs map m → Holds (m .lent .constants) (m .lent .cells) → DataNotWritten prims map n l m
         → Holds (m .lent .constants) (after prims map l m .lent .cells)
-    unfolding after SparedData
-    after-holds [] m r w h s = h
-    after-holds (x ∷ l) m r w h s =
+    unfolding after DataNotWritten
+    after-holds [] m r h s = h
+    after-holds (x ∷ l) m r h s =
         let m₁ = machineAfter prims map x m in
         rw (step-constants prims map x m) at
-        (after-holds l m₁ (step-right prims map x m r) (step-small prims map x m r (record { small = w }) .small) (rw (step-constants prims map x m) (step-holds x m r w h (s .0))) (s .1))
+        (after-holds l m₁ (step-inputs prims map x m r) (rw (step-constants prims map x m) (step-holds x m r h (s .0))) (s .1))
 
 -- ---- a digest command
 
@@ -174,30 +192,34 @@ module _ (prims : Primitives) (map : Map) (m : Machine) (a : ℕ) where
   value = digestNow prims map (numberAt map a) m
 
   -- where it is allowed, its act programs the digest
-  allowed-act : Digestible prims map m a → readyAct prims map m (Digest a) ≡ program digestRule (partitionAt map a .digest / 2) (wordsOf 4 value) stay (say (Done value) stay)
+  allowed-act : Digestible prims map m a
+      → readyAct prims map m (Digest a) ≡ program digestRule (partitionAt map a .digest / 2) (wordsOf 4 value) noEffect (say (Done value) noEffect)
   unfolding readyAct commandAct digestAct partitionAt computedDigest digestStart digestFinal dataWords
   allowed-act d =
-      if-false _ _ (ap not (d .ready)) ∙ if-false _ _ (lt-leb _ _ (d .below)) ∙ if-false _ _ (ap not (d .hardware)) ∙ if-false _ _ (ap not (eq-eqb _ _ (d .start)))
-      ∙ if-false _ _ (d .notLocked)
+      if-false _ _ (ap not (d .ready))
+      ∙ if-false _ _ (allowed-both map a _ (d .below)
+      (digest-open (partitionAt map a) a (record { hardware = d .hardware; start = d .start; unlocked = d .notLocked })))
 
   pub digest-only : codeOf (answerTo prims map (Digest a) m) ≡ 0x00 → Digestible prims map m a
   unfolding unchanged obey act performed readyAct commandAct digestAct perform partitionAt computedDigest digestStart digestFinal dataWords
   digest-only =
-      let Q : Act → Type 0 = λ x. codeOf (perform x (m .lent .copy) (m .lent .cells) .answer) ≡ 0x00 → Digestible prims map m a in
-      step-both prims map (λ (s : Step). codeOf (s .result .answer) ≡ 0x00 → Digestible prims map m a) (Digest a) m (λ answer e z. absurd (true-not-false e (rw z)))
-      (if-both Q _ _ _ (λ t z. absurd (omega arith)) λ r. if-both Q _ _ _ (λ t z. absurd (omega arith)) λ l. if-both Q _ _ _ (λ t z. absurd (omega arith)) λ h.
-      if-both Q _ _ _ (λ t z. absurd (omega arith)) λ s. if-both Q _ _ _ (λ t z. absurd (omega arith)) λ u.
-      after-both (λ r. codeOf (r .answer) ≡ 0x00 → Digestible prims map m a) (programAnswer digestRule (m .lent .cells) (partitionAt map a .digest / 2) (wordsOf 4 value)) _ _
-      (λ e z. record { ready = not-false _ r; below = leb-false _ _ l; hardware = not-false _ h; start = eqb-true _ _ (not-false _ s); notLocked = u; takes = e })
-      (λ cell e z. absurd (omega arith)))
+      let Q : Act → Type 0 = λ x. codeOf (perform x (m .lent) .answer) ≡ 0x00 → Digestible prims map m a in
+      step-both prims map (λ (s : Step). codeOf (s .result .answer) ≡ 0x00 → Digestible prims map m a) (Digest a) m
+      (λ answer e z. absurd (true-not-false e (rw z)))
+      (if-both Q _ _ _ (λ t z. absurd (omega arith)) λ r. if-both Q _ _ _ (λ t z. absurd (omega arith)) λ t.
+      (let g = digest-guards (partitionAt map a) a (allowed-there map a _ t) in
+      after-both (λ r. codeOf (r .answer) ≡ 0x00 → Digestible prims map m a)
+      (programAnswer digestRule (m .lent .cells) (partitionAt map a .digest / 2) (wordsOf 4 value)) _ _
+      (λ e z. record { ready = not-false _ r; below = allowed-below map a _ t; hardware = g .hardware; start = g .start; notLocked = g .unlocked; takes = e })
+      (λ cell e z. absurd (omega arith))))
 
-  module _ (F : fit map ≡ true) (r : Right map m) (d : Digestible prims map m a) where
+  module _ (F : fit map ≡ true) (r : ValidInputs map m) (d : Digestible prims map m a) where
     digested : Digested map (numberAt map a)
     digested = record { known = inside map F (d .below) .known; direct = unfold partitionAt in (hardware-direct _ (d .hardware)) }
 
-    room : partitionAt map a .digest / 2 + length (wordsOf 4 value) ≤ length (m .lent .cells)
+    space : partitionAt map a .digest / 2 + length (wordsOf 4 value) ≤ length (m .lent .cells)
     unfolding partitionAt
-    room =
+    space =
         let f = partition-fit map F (digested .known) in
         rw length-words (omega (arith, f .tail (digested .direct), end-within map F (digested .known), cells-length prims map m r))
 
@@ -206,12 +228,12 @@ module _ (prims : Primitives) (map : Map) (m : Machine) (a : ℕ) where
     unfolding obey act performed perform
     digest-done =
         rw (step-obeys prims map (Digest a) m r, machineAfter, answerTo, allowed-act d, after-done _ _ (d .takes))
-        (refl, put-words digestRule (partitionAt map a .digest / 2) (wordsOf 4 value) (m .lent .cells) room (d .takes))
+        (refl, put-words digestRule (partitionAt map a .digest / 2) (wordsOf 4 value) (m .lent .cells) space (d .takes))
 
-    module _ (G : DigestFits prims) (w : CellsFit m) where
+    module _ (G : DigestFits prims) where
       fits : value < 2 ^ 64
       unfolding computedDigest digestStart digestFinal dataWords
-      fits = digest-small prims G map m r w (partition map (numberAt map a))
+      fits = digest-small prims G map m r (partition map (numberAt map a))
 
       pub digest-stored : storedDigest (partitionAt map a) (machineAfter prims map (Digest a) m .lent .cells) ≡ value
       unfolding storedDigest
@@ -222,17 +244,17 @@ module _ (prims : Primitives) (map : Map) (m : Machine) (a : ℕ) where
       unfolding storedDigest partitionAt
       blank = blank-part (m .lent .cells) _ 4 (λ j lo hi. done-blank (wordsOf 4 value) (m .lent .cells) _ j (d .takes) lo (rw length-words hi))
 
-      pub digest-checks : (l : List Command) → SparedData prims map (numberAt map a) l (machineAfter prims map (Digest a) m)
+      pub digest-checks : (l : List Command) → DataNotWritten prims map (numberAt map a) l (machineAfter prims map (Digest a) m)
           → digestHolds prims (m .lent .constants) (after prims map l (machineAfter prims map (Digest a) m) .lent .cells) (partitionAt map a) ≡ true
       unfolding partitionAt
       digest-checks l s =
           let n = numberAt map a in
           let x : Command = Digest a in
-          let h = step-holds prims map F n digested (d .hardware) G x m r w (zero-holds prims map F n digested (m .lent .constants) (m .lent .cells) blank) tt in
+          let h = step-holds prims map F n digested (d .hardware) G x m r (zero-holds prims map F n digested (m .lent .constants) (m .lent .cells) blank) tt in
           rw (step-constants prims map x m) at
-          (after-holds prims map F n digested (d .hardware) G l (machineAfter prims map x m) (step-right prims map x m r) (step-small prims map x m r (record { small = w }) .small)
+          (after-holds prims map F n digested (d .hardware) G l (machineAfter prims map x m) (step-inputs prims map x m r)
           (rw (step-constants prims map x m) h) s)
 
-pub digest-exact : (prims : Primitives) (map : Map) (m : Machine) (a : ℕ) → fit map ≡ true → Right map m
+pub digest-exact : (prims : Primitives) (map : Map) (m : Machine) (a : ℕ) → fit map ≡ true → ValidInputs map m
     → (codeOf (answerTo prims map (Digest a) m) ≡ 0x00) ↔ Digestible prims map m a
 digest-exact prims map m a F r = (digest-only prims map m a, λ d. ap codeOf (digest-done prims map m a F r d .0))

@@ -1,13 +1,13 @@
--- When a digest command answers 5 and 4. The idea: an address that is the start of a partition is in that partition, so that the guards of the act are the conditions of the
--- rule; past them the four words of the location decide.
+-- When a digest command answers 5 and 4. The idea: an address that is the start of a partition is in that partition, so that the guards of the act are the
+-- conditions of the rule; past them the four words of the location decide.
 use mathlib.Core.Path.{_≡_, refl, sym, ap, _∙_}
-use mathlib.Core.Bool.{true, not}
+use mathlib.Core.Bool.{true, not, false, _||_}
 use mathlib.Core.List.{List}
 use mathlib.Core.Logic.{_↔_}
 use Prim.Native.Nat.{ℕ, _/_, _<_}
 use native.Mathlib.Omega.{arith}
-use lib.Dec.{eqb, leb}
-use borrow.Author.Tests.{eqb-true, eq-eqb, leb-false, lt-leb, not-false, not-true}
+use lib.Dec.{leb}
+use borrow.Author.Tests.{eq-eqb, not-true}
 use Rattle.basics.proofs.Choice.{true-not-false, if-both}
 use Rattle.words.specs.declared.Programmed.{Programmed}
 use Rattle.words.specs.Words.{wordsOf}
@@ -20,18 +20,19 @@ use Rattle.partitions.proofs.Map.{inside, only, partition-at, partition-fit, en
 use Rattle.model.specs.declared.Answer.{Answer}
 use Rattle.model.specs.declared.Answer.the-variants.{Done, NotBlank, Denied}
 use Rattle.model.specs.declared.Command.the-variants.{Digest}
-use Rattle.model.specs.Session.{isReady, sensedAt, sensedLocked}
+use Rattle.model.specs.Session.{isReady, sensedLocked, sensedAt}
 use Rattle.model.specs.Lent.{Machine, Primitives}
 use Rattle.model.specs.Acts.{Act, perform}
-use Rattle.model.specs.Commands.{digestRule, computedDigest, digestAct, commandAct, readyAct}
+use Rattle.model.specs.Commands.{digestRule, computedDigest, digestAct, commandAct, readyAct, digestDenied}
 use Rattle.model.specs.Step.{performed, act, obey, answerTo}
-use Rattle.model.specs.Claims.Terms.{Right, Says}
+use Rattle.model.specs.Claims.Terms.{ValidInputs, Says}
 use Rattle.model.specs.Claims.Numbers.{LowestBurnt}
 use Rattle.model.specs.Claims.Digests.{DigestAllowed}
 use Rattle.model.proofs.KindNames.{hardware-kind, kind-hardware}
 use Rattle.model.proofs.Acts.{after-both}
 use Rattle.model.proofs.Steps.{step-obeys}
 use Rattle.model.proofs.StoredWords.{lowest-blank}
+use Rattle.model.proofs.Guards.{allowed-both, digest-guards, digest-open, allowed-there, allowed-below, not-locked}
 use Rattle.words.specs.declared.Programmed.the-variants as programmed
 use Rattle.model.specs.declared.Phase.the-variants as phase
 
@@ -56,8 +57,27 @@ module _ (prims : Primitives) (map : Map) (F : fit map ≡ true) (m : Machine) (
   start-there : (d : Allowed) → a ≡ partitionAt map a .start
   start-there d = rw (partition-at map a (in-partition d)) (d .start)
 
-  unlocked-there : (d : Allowed) → sensedAt (m .session) (numberAt map a) ≡ 0
-  unlocked-there d = rw (in-partition d) (d .unlocked)
+  unlocked-there : (d : Allowed) → sensedLocked (m .session) (numberAt map a) ≡ false
+  unfolding sensedLocked
+  unlocked-there d = ap not (eq-eqb (sensedAt (m .session) (numberAt map a)) 0 (rw (in-partition d) (d .unlocked)))
+
+  -- it is allowed where it is not denied, and nowhere else
+  not-denied : Allowed → (leb (limit map) a || digestDenied (sensedLocked (m .session) (numberAt map a)) (partitionAt map a) a) ≡ false
+  not-denied d =
+      allowed-both map a _ (below-limit d)
+      (digest-open (partitionAt map a) a (record { hardware = hardware-there d; start = start-there d; unlocked = unlocked-there d }))
+
+  allowed : (leb (limit map) a || digestDenied (sensedLocked (m .session) (numberAt map a)) (partitionAt map a) a) ≡ false → Allowed
+  unfolding partitionAt
+  allowed t =
+      let g = digest-guards (partitionAt map a) a (allowed-there map a _ t) in
+      record {
+        number = numberAt map a;
+        known = inside map F (allowed-below map a _ t) .known;
+        hardware = hardware-kind _ (g .hardware);
+        start = g .start;
+        unlocked = not-locked (m .session) (numberAt map a) (g .unlocked);
+      }
 
   abbrev words : List ℕ
   words = wordsOf 4 (computedDigest prims (m .lent .constants) (partitionAt map a) (m .lent .cells))
@@ -71,27 +91,14 @@ module _ (prims : Primitives) (map : Map) (F : fit map ≡ true) (m : Machine) (
     done : {value : ℕ} → Allowed → Takes programmed.Done → answer ≡ Done value → DigestEnd answer
 
   abbrev Ends : Act → Type 0
-  Ends x = DigestEnd (perform x (m .lent .copy) (m .lent .cells) .answer)
+  Ends x = DigestEnd (perform x (m .lent) .answer)
 
   digest-ends : Ends (digestAct prims map m a)
-  unfolding digestAct perform sensedLocked
+  unfolding digestAct perform
   digest-ends =
-      if-both Ends (leb (limit map) a) _ _ (λ t. denied (λ d. true-not-false t (lt-leb _ _ (below-limit d))) refl)
-      λ l. if-both Ends (not (rightsOf (partitionAt map a .kind) .hardware)) _ _ (λ t. denied (λ d. true-not-false (hardware-there d) (not-true _ t)) refl)
-      λ h. if-both Ends (not (eqb a (partitionAt map a .start))) _ _ (λ t. denied (λ d. true-not-false (eq-eqb _ _ (start-there d)) (not-true _ t)) refl)
-      λ s. if-both Ends (not (eqb (sensedAt (m .session) (numberAt map a)) 0)) _ _ (λ t. denied (λ d. true-not-false (eq-eqb _ 0 (unlocked-there d)) (not-true _ t)) refl)
-      λ u. (let d = allowed (leb-false _ _ l) (not-false _ h) (eqb-true _ _ (not-false _ s)) (eqb-true _ 0 (not-false _ u)) in
-      after-both (λ r. DigestEnd (r .answer)) _ _ _ (λ e. done d e refl) (λ i e. stops d e refl))
-    where
-      allowed : a < limit map → rightsOf (partitionAt map a .kind) .hardware ≡ true → a ≡ partitionAt map a .start → sensedAt (m .session) (numberAt map a) ≡ 0
-          → DigestAllowed prims map m a
-      allowed l h s u = record {
-        number = numberAt map a;
-        known = inside map F l .known;
-        hardware = unfold partitionAt in (hardware-kind _ h);
-        start = unfold partitionAt in s;
-        unlocked = u;
-      }
+      if-both Ends (leb (limit map) a || digestDenied (sensedLocked (m .session) (numberAt map a)) (partitionAt map a) a) _ _
+      (λ t. denied (λ d. true-not-false t (not-denied d)) refl)
+      λ t. after-both (λ r. DigestEnd (r .answer)) _ _ _ (λ e. done (allowed t) e refl) (λ i e. stops (allowed t) e refl)
 
   abbrev Exact : Answer → Type 0
   Exact answer =
@@ -100,10 +107,14 @@ module _ (prims : Primitives) (map : Map) (F : fit map ≡ true) (m : Machine) (
 
   -- the lowest word that refuses, of four
   lowest-of : (i : ℕ) → Takes (programmed.Refused i) → LowestBurnt (m .lent .cells) (partitionAt map a .digest / 2) 4 i
-  lowest-of i t = rw length-words at (lowest-blank (m .lent .cells) words (partitionAt map a .digest / 2) i .0 (refused-lowest digestRule words (m .lent .cells) (partitionAt map a .digest / 2) i t))
+  lowest-of i t =
+      rw length-words at (lowest-blank (m .lent .cells) words (partitionAt map a .digest / 2) i .0
+      (refused-lowest digestRule words (m .lent .cells) (partitionAt map a .digest / 2) i t))
 
   refused-at : (i : ℕ) → LowestBurnt (m .lent .cells) (partitionAt map a .digest / 2) 4 i → Takes (programmed.Refused i)
-  refused-at i b = lowest-refused digestRule words (m .lent .cells) (partitionAt map a .digest / 2) i (lowest-blank (m .lent .cells) words (partitionAt map a .digest / 2) i .1 (rw length-words b))
+  refused-at i b =
+      lowest-refused digestRule words (m .lent .cells) (partitionAt map a .digest / 2) i
+      (lowest-blank (m .lent .cells) words (partitionAt map a .digest / 2) i .1 (rw length-words b))
 
   exact : {answer : Answer} → DigestEnd answer → Exact answer
   exact (denied n e) = rw e (((λ q. n), λ q. (refl, refl)), λ i. ((λ q. absurd (omega (arith, q .0))), λ q. absurd (n (q .0))))
@@ -112,14 +123,15 @@ module _ (prims : Primitives) (map : Map) (F : fit map ≡ true) (m : Machine) (
     λ i. ((λ q. (d, lowest-of i (t ∙ ap programmed.Refused (q .1)))), λ q. (refl, same-word i (refused-at i (q .1)))),
   )
     where
-      same-word : (i : ℕ) → programAnswer digestRule (m .lent .cells) (partitionAt map a .digest / 2) (wordsOf 4 (computedDigest prims (m .lent .constants) (partitionAt map a) (m .lent .cells))) ≡ programmed.Refused i → k ≡ i
+      same-word : (i : ℕ) → programAnswer digestRule (m .lent .cells) (partitionAt map a .digest / 2)
+          (wordsOf 4 (computedDigest prims (m .lent .constants) (partitionAt map a) (m .lent .cells))) ≡ programmed.Refused i → k ≡ i
       same-word i q = let z : programmed.Refused k ≡ programmed.Refused i = sym t ∙ q in cc
   exact (done d t e) = rw e (
     ((λ q. absurd (omega (arith, q .0))), λ q. absurd (q d)),
     λ i. ((λ q. absurd (omega (arith, q .0))), λ q. absurd (refused-not-done (sym (refused-at i (q .1)) ∙ t))),
   )
 
-  pub digest-codes : Right map m → m .session .phase ≡ phase.Ready → Exact (answerTo prims map (Digest a) m)
+  pub digest-codes : ValidInputs map m → m .session .phase ≡ phase.Ready → Exact (answerTo prims map (Digest a) m)
   unfolding obey act performed readyAct commandAct isReady
   digest-codes r e =
       rw (step-obeys prims map (Digest a) m r, answerTo)

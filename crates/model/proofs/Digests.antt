@@ -16,7 +16,7 @@ use Rattle.words.proofs.Words.{length-words, number-words}
 use Rattle.words.proofs.Parts.{part-same}
 use Rattle.words.proofs.Programming.{program-elsewhere, program-takes}
 use Rattle.partitions.specs.declared.Partition.{Partition}
-use Rattle.partitions.specs.Map.{Map, numberAt, partition, partitionAt, inDigest}
+use Rattle.partitions.specs.Map.{Map, numberAt, partition, partitionAt, inDigest, firstWord, wordCount}
 use Rattle.partitions.specs.Fitness.{fit}
 use Rattle.partitions.proofs.KindRights.{soft-plain, hardware-direct}
 use Rattle.partitions.proofs.Map.{inside, partition-at, partition-fit, end-within}
@@ -27,12 +27,13 @@ use Rattle.model.specs.declared.Command.the-variants.{Write, Digest}
 use Rattle.model.specs.Lent.{Machine, Primitives}
 use Rattle.model.specs.Commands.{storedDigest, scrambled}
 use Rattle.model.specs.Step.{Step, unchanged, performed, act, powerUp, after, machineAfter, answerTo}
-use Rattle.model.specs.Claims.Terms.{Right, Digested}
+use Rattle.model.specs.Claims.Terms.{ValidInputs, Digested, writingOf, writesNothing, storedWords}
 use Rattle.model.specs.Claims.Digests.{Puts, writes, computes, Source, found, put}
-use Rattle.model.proofs.Acts.{Burnt, left, burnt, perform-once}
-use Rattle.model.proofs.Frame.{Aim, by-aim, aimless-word}
-use Rattle.model.proofs.Steps.{outcome, step-all, cells-length, step-right}
-use Rattle.model.proofs.Targets.{Written, Computed, write-once, digest-once}
+use Rattle.model.proofs.Frame.{programs-none-word, programs-nowhere}
+use Rattle.model.proofs.Steps.{outcome, step-all, cells-length, step-inputs}
+use Rattle.model.proofs.Forms.{Writes, Digesting}
+use Rattle.model.proofs.Targets.{WriteBurns, DigestBurns, left, burnt, write-burnt, digest-burnt}
+use Rattle.model.proofs.Classes.{by-writing}
 use Rattle.words.specs.declared.Programmed.the-variants as programmed
 
 module _ (prims : Primitives) (map : Map) (F : fit map ≡ true) (n : ℕ) (D : Digested map n) where
@@ -51,14 +52,15 @@ module _ (prims : Primitives) (map : Map) (F : fit map ≡ true) (n : ℕ) (D : 
   digest-same c d h = ap numberOf (part-same c d _ 4 (λ j lo hi. h j (lo, hi)))
 
   -- four words programmed there are the digest
-  pub digest-taken : (rule : Rule) (m : Machine) → Right map m → (value : ℕ) → programAnswer rule (m .lent .cells) (p .digest / 2) (wordsOf 4 value) ≡ programmed.Done
+  pub digest-taken : (rule : Rule) (m : Machine) → ValidInputs map m → (value : ℕ)
+      → programAnswer rule (m .lent .cells) (p .digest / 2) (wordsOf 4 value) ≡ programmed.Done
       → value % 2 ^ 64 ≡ storedDigest p (programCells rule (m .lent .cells) (p .digest / 2) (wordsOf 4 value))
   unfolding storedDigest
   digest-taken rule m r value e =
       let f = partition-fit map F (D .known) in
-      let room : p .digest / 2 + 4 ≤ length (m .lent .cells) = omega (arith, f .tail (D .direct), end-within map F (D .known), cells-length prims map m r) in
+      let space : p .digest / 2 + 4 ≤ length (m .lent .cells) = omega (arith, f .tail (D .direct), end-within map F (D .known), cells-length prims map m r) in
       sym (number-words 4 value)
-      ∙ ap numberOf (sym (rw length-words at (program-takes rule (m .lent .cells) (wordsOf 4 value) (p .digest / 2) (rw length-words room) e)))
+      ∙ ap numberOf (sym (rw length-words at (program-takes rule (m .lent .cells) (wordsOf 4 value) (p .digest / 2) (rw length-words space) e)))
 
   -- words programmed elsewhere leave it
   digest-left : (rule : Rule) (c words : List ℕ) (at : ℕ) → ((j : ℕ) → Word j → at ≤ j → j < at + length words → ⊥)
@@ -75,81 +77,83 @@ module _ (prims : Primitives) (map : Map) (F : fit map ≡ true) (n : ℕ) (D : 
 
   -- ---- a write
 
-  module _ {m : Machine} {a given : ℕ} {rule : Rule} {at : ℕ} {words : List ℕ} {value : ℕ} (w : Written prims map m a given rule at words value) where
+  module _ {m : Machine} {a : ℕ} (w : Writes prims map m a) where
     -- in the digest it programs the four words of its data, plain
-    write-inside : partitionAt map a ≡ p → inDigest p a ≡ true → (at ≡ p .digest / 2) × (words ≡ wordsOf 4 given)
+    write-inside : partitionAt map a ≡ p → inDigest p a ≡ true → (given : ℕ)
+        → (firstWord (partitionAt map a) a ≡ p .digest / 2) × (storedWords prims map (m .lent .constants) a given ≡ wordsOf 4 given)
     unfolding scrambled
-    write-inside e d =
+    write-inside e d given =
         let h : inDigest (partitionAt map a) a ≡ true = rw e d in
-        let g = digest-granule map F (w .below) (w .direct) h in
-        let soft = not-passed _ (λ t. true-not-false (and-both _ _ t h) (w .not-digest)) in
-        (rw e at (w .place ∙ g .0), w .holds ∙ rw (g .1) (ap (wordsOf 4) (if-false _ _ (soft-plain _ soft))))
+        let g = digest-granule map F (w .below) (w .guards .direct) h in
+        let soft = not-passed _ (λ t. true-not-false (and-both _ _ t h) (w .guards .notDigest)) in
+        (g .0 ∙ ap (λ (q : Partition). q .digest / 2) e, rw (g .1) (ap (wordsOf 4) (if-false _ _ (soft-plain _ soft))))
 
     -- a word of the digest that it programs shows that it is in the digest
-    write-meets : (j : ℕ) → Word j → at ≤ j → j < at + length words → (eqb (numberAt map a) n && inDigest p a) ≡ true
-    write-meets j v lo hi =
-        let from = rw (w .place) at lo in
-        let below = rw (w .place, w .holds, length-words) at hi in
+    write-meets : (j : ℕ) → Word j → firstWord (partitionAt map a) a ≤ j → j < firstWord (partitionAt map a) a + wordCount (partitionAt map a) a
+        → (eqb (numberAt map a) n && inDigest p a) ≡ true
+    write-meets j v from below =
         let e : numberAt map a ≡ n = sym (word-number map F (w .below) from below) ∙ word-at j v in
         let q = partition-at map a e in
         let side : inDigest p (2 * j) ≡ inDigest p a = rw q at (word-inside map F (w .below) from below .side) in
         and-both _ _ (eq-eqb _ _ e) (sym side ∙ digest-word map F (D .known) (D .direct) (v .0) (v .1) .1)
 
-  write-changes : (m : Machine) → Right map m → (a value : ℕ) → Changes (Write a value) m
-  write-changes m r a value = go (perform-once (write-once prims map m a value) (m .lent .copy) (m .lent .cells))
+  write-changes : (m : Machine) → ValidInputs map m → (a value : ℕ) → Changes (Write a value) m
+  write-changes m r a value = go (write-burnt prims map m a value)
     where
-      go : Burnt (Written prims map m a value) (m .lent .cells) (outcome prims map (Write a value) m) → Changes (Write a value) m
+      go : WriteBurns prims map m a value (outcome prims map (Write a value) m) → Changes (Write a value) m
       go (left e) = kept (rw e)
       go (burnt w k f e) =
           by-cases (eqb (numberAt map a) n && inDigest p a)
           (λ t.
           (let q = eqb-true (numberAt map a) n (and-left (eqb (numberAt map a) n) (inDigest p a) t) in
           let d = and-right (eqb (numberAt map a) n) (inDigest p a) t in
-          let g = write-inside w (partition-at map a q) d in
-          puts (rw (f, e, w .answer, g .0, g .1) (writes q d (digest-taken _ m r value (rw (g .0, g .1) at k))))))
-          (λ t. kept (rw f (digest-left _ _ _ _ (λ j v lo hi. true-not-false (write-meets w j v lo hi) t))))
+          let g = write-inside w (partition-at map a q) d value in
+          puts (rw (f, e, g .0, g .1) (writes q d (digest-taken _ m r value (rw (g .0, g .1) at k))))))
+          (λ t. kept (rw f (digest-left _ _ _ _ (λ j v lo hi. true-not-false (write-meets w j v lo (rw length-words at hi)) t))))
 
   -- ---- a digest command
 
   -- it programs words of its partition alone
-  pub computed-word : {m : Machine} {a : ℕ} {rule : Rule} {at : ℕ} {words : List ℕ} {value : ℕ} → Computed prims map m a rule at words value
-      → (j : ℕ) → at ≤ j → j < at + length words → numberAt map (2 * j) ≡ numberAt map a
+  pub computed-word : {m : Machine} {a : ℕ} → Digesting prims map m a → (j : ℕ) → partitionAt map a .digest / 2 ≤ j → j < partitionAt map a .digest / 2 + 4
+      → numberAt map (2 * j) ≡ numberAt map a
   unfolding partitionAt
-  computed-word {a = a} w j lo hi =
-      digest-word map F (inside map F (w .below) .known) (hardware-direct _ (w .hard)) (rw (w .place) at lo) (rw (w .place, w .holds, length-words) at hi) .0
+  computed-word {a = a} w j lo hi = digest-word map F (inside map F (w .below) .known) (hardware-direct _ (w .guards .hardware)) lo hi .0
 
-  digest-changes : (m : Machine) → Right map m → (a : ℕ) → Changes (Digest a) m
-  digest-changes m r a = go (perform-once (digest-once prims map m a) (m .lent .copy) (m .lent .cells))
+  digest-changes : (m : Machine) → ValidInputs map m → (a : ℕ) → Changes (Digest a) m
+  digest-changes m r a = go (digest-burnt prims map m a)
     where
-      go : Burnt (Computed prims map m a) (m .lent .cells) (outcome prims map (Digest a) m) → Changes (Digest a) m
+      go : DigestBurns prims map m a (outcome prims map (Digest a) m) → Changes (Digest a) m
       go (left e) = kept (rw e)
       go (burnt w k f e) =
           by-cases (eqb (numberAt map a) n)
           (λ t.
           (let q = partition-at map a (eqb-true _ _ t) in
-          let at-digest = rw q at (w .place) in
-          puts (rw (f, e, at-digest, w .holds) (computes (rw q at (w .first)) (digest-taken _ m r _ (rw (at-digest, w .holds) at k))))))
-          (λ t. kept (rw f (digest-left _ _ _ _ (λ j v lo hi. eqb-false _ _ t (sym (computed-word w j lo hi) ∙ word-at j v)))))
+          let place : partitionAt map a .digest / 2 ≡ p .digest / 2 = ap (λ (q : Partition). q .digest / 2) q in
+          puts (rw (f, e, place) (computes (rw q at (w .guards .start)) (digest-taken _ m r _ (rw place at k))))))
+          (λ t. kept (rw f (digest-left _ _ _ _ (λ j v lo hi. eqb-false _ _ t (sym (computed-word w j lo (rw length-words at hi)) ∙ word-at j v)))))
 
   -- ---- every command
 
   -- a command with no aim programs no word of it
-  aimless : (x : Command) (m : Machine) → ((j : ℕ) → Aim map x j → ⊥) → Changes x m
-  aimless x m h = kept (digest-same _ _ (λ j w. aimless-word prims map F m x j (rw (partition-at map (2 * j) (word-at j w)) (D .direct)) (h j)))
+  programs-none : (x : Command) (m : Machine) → writingOf x ≡ writesNothing → Changes x m
+  programs-none x m h =
+      kept (digest-same _ _ (λ j w. programs-none-word prims map F m x j (rw (partition-at map (2 * j) (word-at j w)) (D .direct))
+      (programs-nowhere map x h j)))
 
-  command-changes : (m : Machine) → Right map m → (x : Command) → Changes x m
-  command-changes m r = by-aim map (λ (x : Command). Changes x m) (write-changes m r) (digest-changes m r) (λ x h. aimless x m h)
+  command-changes : (m : Machine) → ValidInputs map m → (x : Command) → Changes x m
+  command-changes m r = by-writing (λ (x : Command). Changes x m) (write-changes m r) (digest-changes m r) (λ x h. programs-none x m h)
 
-  pub step-changes : (x : Command) (m : Machine) → Right map m → Change x (m .lent .cells) (machineAfter prims map x m .lent .cells) (answerTo prims map x m)
+  pub step-changes : (x : Command) (m : Machine) → ValidInputs map m
+      → Change x (m .lent .cells) (machineAfter prims map x m .lent .cells) (answerTo prims map x m)
   unfolding unchanged powerUp act performed
   step-changes x m r =
       step-all prims map (λ (s : Step). Change x (m .lent .cells) (s .result .machine .lent .cells) (s .result .answer)) x m (λ answer e. kept refl) (kept refl)
       (command-changes m r x)
 
-  pub whole-digests : (l : List Command) (m : Machine) → Right map m → Source prims map m l n (storedDigest p (after prims map l m .lent .cells))
+  pub whole-digests : (l : List Command) (m : Machine) → ValidInputs map m → Source prims map m l n (storedDigest p (after prims map l m .lent .cells))
   unfolding after
   whole-digests [] m r = found refl
-  whole-digests (x ∷ l) m r = go (step-changes x m r) (whole-digests l (machineAfter prims map x m) (step-right prims map x m r))
+  whole-digests (x ∷ l) m r = go (step-changes x m r) (whole-digests l (machineAfter prims map x m) (step-inputs prims map x m r))
     where
       go : {digest : ℕ} → Change x (m .lent .cells) (machineAfter prims map x m .lent .cells) (answerTo prims map x m)
           → Source prims map (machineAfter prims map x m) l n digest → Source prims map m (x ∷ l) n digest

@@ -1,7 +1,7 @@
--- What a failed life cycle check was caused by. The idea: a command leaves what the life cycle words decode to, or it is a transition that spent a stroke; that one leaves the state, or
--- puts its target there, and its target is SCRAP or not.
-use mathlib.Core.Path.{_≡_, refl, sym, ap, _∙_}
-use mathlib.Core.Bool.{true, false}
+-- What a failed life cycle check was caused by. The idea: a command leaves what the life cycle words decode to, or it is a transition that spent a stroke; that
+-- one leaves the state, or puts its target there, and its target is SCRAP or not.
+use mathlib.Core.Path.{_≡_, sym, ap, _∙_}
+use mathlib.Core.Bool.{true}
 use mathlib.Core.List.{List, [], _∷_}
 use mathlib.Core.Logic.{_⊎_, inl, inr, ⊎-elim}
 use mathlib.Core.Option.{Option, none, some}
@@ -15,19 +15,20 @@ use Rattle.partitions.specs.Fitness.{fit}
 use Rattle.life_cycle.specs.declared.LifeCycle.{LifeCycle}
 use Rattle.life_cycle.specs.declared.LifeCycle.the-variants.{Valid}
 use Rattle.model.specs.declared.Command.{Command}
-use Rattle.model.specs.declared.Command.the-variants.{Read, Write, FrontRead, Digest, ReadLock, Transition, PowerUp}
+use Rattle.model.specs.declared.Command.the-variants.{Transition, PowerUp}
 use Rattle.model.specs.Answers.{codeOf}
 use Rattle.model.specs.Lent.{Machine, Primitives}
-use Rattle.model.specs.PowerUp.{Waking, verdictOf, lifeCycleIn, waking, wakingOf, lifeCycleWaking, wokenAnswer}
-use Rattle.model.specs.Step.{Step, unchanged, powerUp, after, machineAfter, answerTo}
-use Rattle.model.specs.Claims.Terms.{Right}
+use Rattle.model.specs.PowerUp.{PowerUpEnd, verdictOf, lifeCycleIn, powerUpEnd, endOf, lifeCycleEnd, poweredAnswer}
+use Rattle.model.specs.Step.{Step, unchanged, powerUp, after, machineAfter, answerTo, obey}
+use Rattle.model.specs.Claims.Terms.{ValidInputs}
 use Rattle.model.specs.Claims.FailedPowerUps.{Scrapped}
-use Rattle.model.proofs.Frame.{isTransition}
-use Rattle.model.proofs.Steps.{step-all, step-up}
+use Rattle.model.specs.Commands.{classOf, access}
+use Rattle.model.proofs.Steps.{step-all, step-up, step-both}
 use Rattle.model.proofs.TransitionEnds.{moved}
 use Rattle.model.proofs.LifeCycleWords.{up-life, others-life}
 use Rattle.model.proofs.Since.{Reached, first-reached, step-reached, recorded, first-since}
 use Rattle.model.proofs.TransitionLife.{LifeAfter, kept, spent, went, transition-life}
+use Rattle.model.proofs.Classes.{by-class}
 
 valid-state : {s n t k : ℕ} → Valid s n ≡ Valid t k → s ≡ t
 valid-state e = cc
@@ -44,11 +45,15 @@ module _ (prims : Primitives) (map : Map) (F : fit map ≡ true) where
   working-same m m′ e w = record { state = w .state; count = w .count; decodes = e ∙ w .decodes; notScrap = w .notScrap }
 
   -- a command that is no transition
-  others-working : (x : Command) (m : Machine) → isTransition x ≡ false → Working m → Working (machineAfter prims map x m)
+  up-working : (m : Machine) → Working m → Working (machineAfter prims map PowerUp m)
+  unfolding unchanged obey
+  up-working m w = step-both prims map (λ (s : Step). Working (s .result .machine)) PowerUp m (λ answer e. w) (working-same m _ (up-life prims map F m) w)
+
+  access-working : (x : Command) (m : Machine) → classOf x ≡ access → Working m → Working (machineAfter prims map x m)
   unfolding unchanged
-  others-working x m n w =
+  access-working x m c w =
       step-all prims map (λ (s : Step). Working (s .result .machine)) x m (λ answer e. w) (working-same m _ (up-life prims map F m) w)
-      (working-same m _ (others-life prims map F x m n) w)
+      (working-same m _ (others-life prims map F x m c) w)
 
   -- a transition leaves it so, or went to SCRAP
   transition-working : (m : Machine) → Reached prims map F m → Working m → (target high low : ℕ)
@@ -65,7 +70,8 @@ module _ (prims : Primitives) (map : Map) (F : fit map ≡ true) where
         notScrap = λ q. w .notScrap (valid-state (sym (w .decodes) ∙ v) ∙ q);
       })
       go (went z v a e) =
-          by-cases (eqb target 20) (λ t. inr (eqb-true _ _ t, z)) (λ t. inl (record { state = target; count = suc (m .session .count); decodes = e; notScrap = eqb-false _ _ t }))
+          by-cases (eqb target 20) (λ t. inr (eqb-true _ _ t, z))
+          (λ t. inl (record { state = target; count = suc (m .session .count); decodes = e; notScrap = eqb-false _ _ t }))
 
   -- ---- over a list
 
@@ -91,36 +97,41 @@ module _ (prims : Primitives) (map : Map) (F : fit map ≡ true) where
   }
 
   -- a power-up of a chip whose life cycle works does not answer 7
-  power-up-working : (v : Option ℕ) (life : LifeCycle) (state count : ℕ) → life ≡ Valid state count → (state ≡ 20 → ⊥) → codeOf (wokenAnswer (wakingOf v life)) ≡ 0x07 → ⊥
-  unfolding wokenAnswer wakingOf lifeCycleWaking
+  power-up-working : (v : Option ℕ) (life : LifeCycle) (state count : ℕ) → life ≡ Valid state count → (state ≡ 20 → ⊥)
+      → codeOf (poweredAnswer (endOf v life)) ≡ 0x07 → ⊥
+  unfolding poweredAnswer endOf lifeCycleEnd
   power-up-working (some number) life state count e n = λ z. omega arith
-  power-up-working none life state count e n = rw (e, lifeCycleWaking) (if-both (λ (a : Waking). codeOf (wokenAnswer a) ≡ 0x07 → ⊥) (eqb state 20) _ _ (λ t z. n (eqb-true _ _ t)) (λ t z. omega arith))
+  power-up-working none life state count e n =
+      rw (e, lifeCycleEnd) (if-both (λ (a : PowerUpEnd). codeOf (poweredAnswer a) ≡ 0x07 → ⊥) (eqb state 20) _ _ (λ t z. n (eqb-true _ _ t))
+      (λ t z. omega arith))
 
-  working-not-seven : (m : Machine) → Right map m → Working m → codeOf (answerTo prims map PowerUp m) ≡ 0x07 → ⊥
-  unfolding powerUp waking
-  working-not-seven m r w = rw (step-up prims map m r, answerTo) (power-up-working (verdictOf prims map (m .lent)) (lifeCycleIn map (m .lent)) (w .state) (w .count) (w .decodes) (w .notScrap))
+  working-not-seven : (m : Machine) → ValidInputs map m → Working m → codeOf (answerTo prims map PowerUp m) ≡ 0x07 → ⊥
+  unfolding powerUp powerUpEnd
+  working-not-seven m r w =
+      rw (step-up prims map m r, answerTo)
+      (power-up-working (verdictOf prims map (m .lent)) (lifeCycleIn map (m .lent)) (w .state) (w .count) (w .decodes) (w .notScrap))
 
   abbrev Claim : List Command → Machine → Type 0
   Claim l m = codeOf (answerTo prims map PowerUp (after prims map l m)) ≡ 0x07 → Scrapped prims map m l
 
   more : (x : Command) (l : List Command) (m : Machine) → Reached prims map F m → Working m
       → (Working (machineAfter prims map x m) → Claim l (machineAfter prims map x m)) → Claim (x ∷ l) m
-  unfolding after isTransition
-  more (Read a) l m h w f z = later (Read a) m l (f (others-working (Read a) m refl w) z)
-  more (Write a value) l m h w f z = later (Write a value) m l (f (others-working (Write a value) m refl w) z)
-  more (FrontRead a) l m h w f z = later (FrontRead a) m l (f (others-working (FrontRead a) m refl w) z)
-  more (Digest a) l m h w f z = later (Digest a) m l (f (others-working (Digest a) m refl w) z)
-  more (ReadLock number) l m h w f z = later (ReadLock number) m l (f (others-working (ReadLock number) m refl w) z)
-  more (Transition target high low) l m h w f z =
-      ⊎-elim (λ q. later (Transition target high low) m l (f q z)) (λ q. here m target high low l (q .0) (q .1)) (transition-working m h w target high low)
-  more PowerUp l m h w f z = later PowerUp m l (f (others-working PowerUp m refl w) z)
+  unfolding after
+  more =
+      by-class
+      (λ (x : Command). (l : List Command) (m : Machine) → Reached prims map F m → Working m
+      → (Working (machineAfter prims map x m) → Claim l (machineAfter prims map x m)) → Claim (x ∷ l) m)
+      (λ l m h w f z. later PowerUp m l (f (up-working m w) z))
+      (λ target high low l m h w f z. ⊎-elim (λ q. later (Transition target high low) m l (f q z)) (λ q. here m target high low l (q .0) (q .1))
+      (transition-working m h w target high low))
+      (λ x c l m h w f z. later x m l (f (access-working x m c w) z))
 
   run : (l : List Command) (m : Machine) → Reached prims map F m → Working m → Claim l m
   unfolding after
   run [] m h w = λ z. absurd (working-not-seven m (h .held .right) w z)
   run (x ∷ l) m h w = more x l m h w (λ w₁. run l (machineAfter prims map x m) (step-reached prims map F x m h) w₁)
 
-  pub sevens : (m : Machine) → Right map m → codeOf (answerTo prims map PowerUp m) ≡ 0x00 → (l : List Command)
+  pub sevens : (m : Machine) → ValidInputs map m → codeOf (answerTo prims map PowerUp m) ≡ 0x00 → (l : List Command)
       → codeOf (answerTo prims map PowerUp (after prims map (PowerUp ∷ l) m)) ≡ 0x07 → Scrapped prims map (machineAfter prims map PowerUp m) l
   unfolding after
   sevens m r z l =

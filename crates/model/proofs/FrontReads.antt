@@ -1,5 +1,5 @@
--- Front reads, and that they show the same words once the partition is locked. The idea: a front read shows the copy, which is as the last power-up latched it; and every power-up since one that found a
--- partition locked latches the words that it found.
+-- Front reads, and that they show the same words once the partition is locked. The idea: a front read shows the copy, which is as the last power-up latched it;
+-- and every power-up since one that found a partition locked latches the words that it found.
 use mathlib.Core.Path.{_≡_, refl, sym, _∙_, ap}
 use mathlib.Core.Bool.{true}
 use mathlib.Core.List.{List, [], _∷_, _++_, append-nil, append-assoc}
@@ -7,7 +7,7 @@ use mathlib.Core.Logic.{_⊎_, inl, inr, ⊎-elim}
 use Prim.Native.Nat.{ℕ, _+_, _*_, _/_, _≤_, _<_}
 use native.Mathlib.Omega.{arith}
 use lib.ListN.{getD}
-use borrow.Author.Tests.{leb-false, not-false}
+use borrow.Author.Tests.{not-false}
 use Rattle.basics.proofs.Choice.{if-both}
 use Rattle.basics.proofs.Range.{listed-at}
 use Rattle.words.specs.Words.{numberOf}
@@ -18,7 +18,7 @@ use Rattle.partitions.proofs.Map.{partition-at, end-within, inside}
 use Rattle.partitions.proofs.Granules.{word-inside, word-number}
 use Rattle.model.specs.declared.Answer.the-variants.{Done}
 use Rattle.model.specs.declared.Command.{Command}
-use Rattle.model.specs.declared.Command.the-variants.{FrontRead, PowerUp, Read, Write, Digest, ReadLock, Transition}
+use Rattle.model.specs.declared.Command.the-variants.{FrontRead, PowerUp}
 use Rattle.model.specs.Answers.{valueOf}
 use Rattle.model.specs.Session.{isReady}
 use Rattle.model.specs.Lent.{Machine, Primitives}
@@ -26,13 +26,15 @@ use Rattle.model.specs.Acts.{Act, perform}
 use Rattle.model.specs.Commands.{granule, storedDigest, frontReadAct, commandAct, readyAct}
 use Rattle.model.specs.PowerUp.{copyWord}
 use Rattle.model.specs.Step.{performed, act, obey, after, answerTo}
-use Rattle.model.specs.Claims.Terms.{Right, Digested, SamePartition, NoPowerUp}
+use Rattle.model.specs.Claims.Terms.{ValidInputs, Digested, SamePartition, NoPowerUp, notPowerUp}
 use Rattle.model.specs.Claims.Sensing.{Since}
 use Rattle.model.proofs.Acts.{not-done}
-use Rattle.model.proofs.Steps.{outcome, step-obeys, after-right}
+use Rattle.model.proofs.Steps.{outcome, step-obeys, after-inputs}
 use Rattle.model.proofs.Locks.{same-refl, locked-since}
 use Rattle.model.proofs.Chips.{front-latched}
 use Rattle.model.proofs.Since.{since-held}
+use Rattle.model.proofs.Guards.{allowed-below, front-open, allowed-there}
+use Rattle.model.proofs.Classes.{by-class}
 
 -- ---- what a front read that answers 0 shows
 
@@ -46,12 +48,16 @@ module _ (prims : Primitives) (map : Map) where
   pub front-seen : (m : Machine) (a value : ℕ) → outcome prims map (FrontRead a) m .answer ≡ Done value → Seen m a value
   unfolding readyAct commandAct frontReadAct perform
   front-seen m a value =
-      if-both Q _ _ _ (λ t e. absurd (not-done refl e)) λ r. if-both Q _ _ _ (λ t e. absurd (not-done refl e)) λ l.
-      if-both Q _ _ _ (λ t e. absurd (not-done refl e)) λ f. if-both Q _ _ _ (λ t e. absurd (not-done refl e)) λ t e.
-      record { ready = not-false _ r; below = leb-false _ _ l; front = not-false _ f; shown = sym (ap valueOf e) }
+      if-both Q _ _ _ (λ t e. absurd (not-done refl e)) λ r. if-both Q _ _ _ (λ t e. absurd (not-done refl e)) λ t e.
+      record {
+        ready = not-false _ r;
+        below = allowed-below map a _ t;
+        front = front-open (partitionAt map a) a (allowed-there map a _ t);
+        shown = sym (ap valueOf e);
+      }
     where
       Q : Act → Type 0
-      Q x = perform x (m .lent .copy) (m .lent .cells) .answer ≡ Done value → Seen m a value
+      Q x = perform x (m .lent) .answer ≡ Done value → Seen m a value
 
 -- ---- it shows what the last power-up found
 
@@ -61,7 +67,8 @@ module _ (prims : Primitives) (map : Map) (F : fit map ≡ true) where
   seen-latched c₀ m s a value seen =
       seen .shown ∙ ap numberOf (part-same (m .lent .copy) c₀ _ _ (λ j from upto. word j from upto))
     where
-      word : (j : ℕ) → firstWord (partitionAt map a) a ≤ j → j < firstWord (partitionAt map a) a + wordCount (partitionAt map a) a → getD (m .lent .copy) j 0 ≡ getD c₀ j 0
+      word : (j : ℕ) → firstWord (partitionAt map a) a ≤ j → j < firstWord (partitionAt map a) a + wordCount (partitionAt map a) a
+          → getD (m .lent .copy) j 0 ≡ getD c₀ j 0
       word j from upto =
           let n = word-number map F (seen .below) from upto in
           let p = partition-at map (2 * j) n in
@@ -72,11 +79,11 @@ module _ (prims : Primitives) (map : Map) (F : fit map ≡ true) where
           ∙ listed-at (copyWord prims map (m .lent .constants) c₀) 0 (limit map / 2) j low
           ∙ front-latched prims map (m .lent .constants) c₀ j (rw p (unfold partitionAt in (seen .front)))
 
-  read-seen : (m : Machine) → Right map m → (a value : ℕ) → answerTo prims map (FrontRead a) m ≡ Done value → Seen prims map m a value
+  read-seen : (m : Machine) → ValidInputs map m → (a value : ℕ) → answerTo prims map (FrontRead a) m ≡ Done value → Seen prims map m a value
   unfolding obey act performed
   read-seen m r a value = rw (step-obeys prims map (FrontRead a) m r, answerTo) (front-seen prims map m a value)
 
-  pub fronts : (m : Machine) → Right map m → (l₀ l₁ : List Command) → NoPowerUp l₁ → (a value : ℕ)
+  pub fronts : (m : Machine) → ValidInputs map m → (l₀ l₁ : List Command) → NoPowerUp l₁ → (a value : ℕ)
       → answerTo prims map (FrontRead a) (after prims map (l₀ ++ PowerUp ∷ l₁) m) ≡ Done value
       → value ≡ granule (partitionAt map a) (after prims map l₀ m .lent .cells) a
   fronts m r l₀ l₁ u a value e =
@@ -96,16 +103,14 @@ record Last (l : List Command) : Type 0 where
 last-or : (l : List Command) → Last l ⊎ NoPowerUp l
 last-or [] = inr tt
 last-or (x ∷ l) =
-    ⊎-elim (λ q. inl (record { before = x ∷ q .before; behind = q .behind; split = ap (λ (k : List Command). x ∷ k) (q .split); noPowerUp = q .noPowerUp })) (first x l) (last-or l)
+    ⊎-elim (λ q. inl (record { before = x ∷ q .before; behind = q .behind; split = ap (λ (k : List Command). x ∷ k) (q .split); noPowerUp = q .noPowerUp }))
+    (first x l) (last-or l)
   where
     first : (x : Command) (l : List Command) → NoPowerUp l → Last (x ∷ l) ⊎ NoPowerUp (x ∷ l)
-    first (Read a) l u = inr (tt, u)
-    first (Write a value) l u = inr (tt, u)
-    first (FrontRead a) l u = inr (tt, u)
-    first (Digest a) l u = inr (tt, u)
-    first (ReadLock number) l u = inr (tt, u)
-    first (Transition target high low) l u = inr (tt, u)
-    first PowerUp l u = inl (record { before = []; behind = l; split = refl; noPowerUp = u })
+    first =
+        by-class (λ (x : Command). (l : List Command) → NoPowerUp l → Last (x ∷ l) ⊎ NoPowerUp (x ∷ l))
+        (λ l u. inl (record { before = []; behind = l; split = refl; noPowerUp = u })) (λ target high low l u. inr (tt, u))
+        (λ x e l u. inr (rw (e, notPowerUp) tt, u))
 
 last-of : (l : List Command) → Last (PowerUp ∷ l)
 last-of l = ⊎-elim (λ q. q) (λ u. absurd (u .0)) (last-or (PowerUp ∷ l))
@@ -121,7 +126,7 @@ starts (x ∷ before) behind l e = let q : x ≡ PowerUp = cc in q
 
 -- ---- the words of a partition that a power-up found locked
 
-module _ (prims : Primitives) (map : Map) (F : fit map ≡ true) (m : Machine) (r : Right map m) (n : ℕ) (D : Digested map n) (l₁ : List Command)
+module _ (prims : Primitives) (map : Map) (F : fit map ≡ true) (m : Machine) (r : ValidInputs map m) (n : ℕ) (D : Digested map n) (l₁ : List Command)
     (z : storedDigest (partition map n) (after prims map l₁ m .lent .cells) ≡ 0 → ⊥) where
   abbrev c₁ : List ℕ
   c₁ = after prims map l₁ m .lent .cells
@@ -131,7 +136,8 @@ module _ (prims : Primitives) (map : Map) (F : fit map ≡ true) (m : Machine) (
   found-same [] s = rw append-nil same-refl
   found-same (x ∷ l) s = rw s (locked-since prims map F n D m r l₁ l z .1)
 
-  granule-same : (c : List ℕ) → SamePartition map n c₁ c → (a : ℕ) → a < limit map → numberAt map a ≡ n → granule (partitionAt map a) c a ≡ granule (partition map n) c₁ a
+  granule-same : (c : List ℕ) → SamePartition map n c₁ c → (a : ℕ) → a < limit map → numberAt map a ≡ n
+      → granule (partitionAt map a) c a ≡ granule (partition map n) c₁ a
   unfolding granule
   granule-same c h a low e =
       let p = partition-at map a e in
@@ -143,12 +149,14 @@ module _ (prims : Primitives) (map : Map) (F : fit map ≡ true) (m : Machine) (
           let w = word-inside map F low from upto in
           rw (← partition-at map a e) (w .from, w .below)
 
-  pub device-final : (l₂ : List Command) (a value : ℕ) → numberAt map a ≡ n → answerTo prims map (FrontRead a) (after prims map (l₁ ++ PowerUp ∷ l₂) m) ≡ Done value
+  pub device-final : (l₂ : List Command) (a value : ℕ) → numberAt map a ≡ n
+      → answerTo prims map (FrontRead a) (after prims map (l₁ ++ PowerUp ∷ l₂) m) ≡ Done value
       → value ≡ granule (partition map n) c₁ a
   device-final l₂ a value e q =
       let k = last-of l₂ in
-      let split : l₁ ++ PowerUp ∷ l₂ ≡ (l₁ ++ k .before) ++ PowerUp ∷ k .behind = ap (λ (l : List Command). l₁ ++ l) (k .split) ∙ sym (append-assoc l₁ (k .before) (PowerUp ∷ k .behind)) in
+      let split : l₁ ++ PowerUp ∷ l₂ ≡ (l₁ ++ k .before) ++ PowerUp ∷ k .behind = ap (λ (l : List Command). l₁ ++ l) (k .split)
+      ∙ sym (append-assoc l₁ (k .before) (PowerUp ∷ k .behind)) in
       let shown = rw split at q in
-      let low = read-seen prims map F (after prims map (l₁ ++ PowerUp ∷ l₂) m) (after-right prims map (l₁ ++ PowerUp ∷ l₂) m r) a value q .below in
+      let low = read-seen prims map F (after prims map (l₁ ++ PowerUp ∷ l₂) m) (after-inputs prims map (l₁ ++ PowerUp ∷ l₂) m r) a value q .below in
       fronts prims map F m r (l₁ ++ k .before) (k .behind) (k .noPowerUp) a value shown
       ∙ granule-same (after prims map (l₁ ++ k .before) m .lent .cells) (found-same (k .before) (starts (k .before) (k .behind) l₂ (k .split))) a low e

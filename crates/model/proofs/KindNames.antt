@@ -6,7 +6,7 @@ use Prim.Native.Nat.{ℕ}
 use Rattle.basics.proofs.Choice.{true-not-false}
 use Rattle.partitions.specs.declared.Kind.{Kind}
 use Rattle.partitions.specs.Map.{rightsOf}
-use Rattle.model.specs.Lent.{keyOf}
+use Rattle.constants.specs.Constants.{keyOf}
 use Rattle.model.specs.Claims.Numbers.{KeyAt, Plain, Hardware, Lockable, eightFrom}
 use Rattle.partitions.specs.declared.Kind.the-variants as kind
 

@@ -1,52 +1,56 @@
 -- Commands that can be left out of a list. The idea: the acts of a read and of a front read end in an answer alone, and a refused command changes nothing; so
 -- the machine before such a command is the machine after it.
 use mathlib.Core.Path.{_≡_, refl, sym, ap, _∙_}
-use mathlib.Core.Bool.{Bool}
 use mathlib.Core.List.{List, [], _∷_, _++_}
 use Prim.Native.Nat.{ℕ}
-use Rattle.basics.specs.Choice.{if_then_else_}
-use Rattle.basics.proofs.Choice.{if-both}
 use Rattle.partitions.specs.Map.{Map}
 use Rattle.model.specs.declared.Answer.{Answer}
 use Rattle.model.specs.declared.Command.{Command}
 use Rattle.model.specs.declared.Command.the-variants.{Read, FrontRead}
 use Rattle.model.specs.Lent.{Machine, Primitives}
-use Rattle.model.specs.Acts.{stay, Act, say, perform}
-use Rattle.model.specs.Commands.{readAct, frontReadAct, commandAct, readyAct}
-use Rattle.model.specs.Step.{Step, unchanged, performed, act, obey, after, answers, machineAfter, answerTo}
+use Rattle.model.specs.Acts.{noEffect, Act, say, perform}
+use Rattle.model.specs.Step.{Step, unchanged, performed, act, after, answers, machineAfter, answerTo}
 use Rattle.model.specs.Claims.Refusals.{Idle, reads, frontReads, refused, unlent}
-use Rattle.model.proofs.Steps.{step-both, after-append}
-use Rattle.model.proofs.Refusals.{same-machine, commands-refuse, power-ups-refuse}
-
--- the act answers and does nothing else
-data AnswersOnly : Act → Type 0 where
-  says : {answer : Answer} → AnswersOnly (say answer stay)
-
-answers-if : (b : Bool) {x y : Act} → AnswersOnly x → AnswersOnly y → AnswersOnly (if b then x else y)
-answers-if b {x} {y} f g = if-both AnswersOnly b x y (λ e. f) (λ e. g)
+use Rattle.model.specs.Claims.Terms.{quiet}
+use Rattle.model.proofs.Steps.{step-both, after-append, same-machine, obeys-act, afterAct}
+use Rattle.model.proofs.Refusals.{commands-refuse, power-ups-refuse}
+use Rattle.model.proofs.Forms.{Form, act-form}
+use Rattle.model.proofs.Classes.{no-power-up, quiet-not-power-up}
 
 module _ (prims : Primitives) (map : Map) (m : Machine) where
-  same-after : {x : Act} → AnswersOnly x → performed (perform x (m .lent .copy) (m .lent .cells)) m .result .machine ≡ m
-  unfolding performed perform
-  same-after (says {answer}) = same-machine prims map m (record { cells = m .lent .cells; answer = answer; turn = stay; compared = [] }) refl refl
+  -- what a read or a front read comes to
+  abbrev Same : Act → Type 0
+  Same act = performed (perform act (m .lent)) m .result .machine ≡ m
 
-  read-same : (a : ℕ) → machineAfter prims map (Read a) m ≡ m
-  unfolding unchanged obey act
-  read-same a = step-both prims map (λ (s : Step). s .result .machine ≡ m) (Read a) m (λ answer e. refl) (same-after (read-says a))
-    where
-      read-says : (a : ℕ) → AnswersOnly (readyAct prims map m (Read a))
-      read-says a = unfold readyAct commandAct readAct in (search (answers-if, says) depth 9)
+  says-same : (answer : Answer) → Same (say answer noEffect)
+  unfolding perform
+  says-same answer = same-machine m (record { cells = m .lent .cells; answer = answer; effect = noEffect; compared = [] }) refl refl
 
-  front-same : (a : ℕ) → machineAfter prims map (FrontRead a) m ≡ m
-  unfolding unchanged obey act
-  front-same a = step-both prims map (λ (s : Step). s .result .machine ≡ m) (FrontRead a) m (λ answer e. refl) (same-after (front-says a))
+  answers-only : (x : Command) → quiet x → afterAct prims map x m ≡ m → machineAfter prims map x m ≡ m
+  unfolding unchanged
+  answers-only x q h =
+      step-both prims map (λ (s : Step). s .result .machine ≡ m) x m (λ answer e. refl)
+      (rw (obeys-act prims map x m (no-power-up x (quiet-not-power-up x q))) h)
+
+  pub read-acts : (a : ℕ) → afterAct prims map (Read a) m ≡ m
+  unfolding act
+  read-acts a = by-form (act-form prims map m (Read a))
     where
-      front-says : (a : ℕ) → AnswersOnly (readyAct prims map m (FrontRead a))
-      front-says a = unfold readyAct commandAct frontReadAct in (search (answers-if, says) depth 9)
+      by-form : {act : Act} → Form prims map m (Read a) act → Same act
+      by-form (Form.refuses r) = says-same _
+      by-form Form.reads = says-same _
+
+  front-acts : (a : ℕ) → afterAct prims map (FrontRead a) m ≡ m
+  unfolding act
+  front-acts a = by-form (act-form prims map m (FrontRead a))
+    where
+      by-form : {act : Act} → Form prims map m (FrontRead a) act → Same act
+      by-form (Form.refuses r) = says-same _
+      by-form Form.frontReads = says-same _
 
   pub idle-same : (x : Command) → Idle prims map m x → machineAfter prims map x m ≡ m
-  idle-same x (reads {a}) = read-same a
-  idle-same x (frontReads {a}) = front-same a
+  idle-same x (reads {a}) = answers-only (Read a) tt (read-acts a)
+  idle-same x (frontReads {a}) = answers-only (FrontRead a) tt (front-acts a)
   idle-same x (refused q h) = commands-refuse prims map m x q h
   idle-same x (unlent j) = power-ups-refuse prims map m .1 j
 

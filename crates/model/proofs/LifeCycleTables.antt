@@ -18,7 +18,7 @@ use Rattle.life_cycle.specs.declared.Token.{Token}
 use Rattle.life_cycle.specs.declared.Entry.{Entry}
 use Rattle.life_cycle.specs.declared.Entry.the-variants.{Allowed, Forbidden}
 use Rattle.life_cycle.specs.Words.{counterWord, counterWords, hasB, stateWord, stateWords}
-use Rattle.life_cycle.specs.Transitions.{isTest, isUnlocked, isLocked, testIndex, transition}
+use Rattle.life_cycle.specs.Transitions.{isTest, isUnlocked, isLocked, testIndex, tableEntry}
 use Rattle.life_cycle.proofs.Encoding.{counter-at, state-at}
 use Rattle.life_cycle.proofs.Table.{allowed-ends}
 use Rattle.model.specs.declared.Command.the-variants.{Transition}
@@ -30,8 +30,8 @@ use Rattle.model.specs.Claims.LifeCycles.{rows, marks, LifeCycles}
 use Rattle.model.proofs.TransitionCodes.{tokens-compared}
 use Rattle.life_cycle.specs.declared.Token.the-variants as token
 
-table : listed (λ state. listed (transition state) 0 21) 0 21 ≡ rows
-unfolding listed transition isTest isUnlocked isLocked testIndex if_then_else_
+table : listed (λ state. listed (tableEntry state) 0 21) 0 21 ≡ rows
+unfolding listed tableEntry isTest isUnlocked isLocked testIndex if_then_else_
 table = refl
 
 -- ---- state words
@@ -79,10 +79,10 @@ asksOne (Allowed token.TestUnlock) target = true
 asksOne (Allowed token.TestExit) target = true
 asksOne (Allowed token.Rma) target = false
 
-locked-asks : (i target : ℕ) → i < 7 → target < 21 → asksOne (transition (2 * i + 2) target) target ≡ true
-unfolding asksOne allBelow transition isTest isUnlocked isLocked testIndex if_then_else_
+locked-asks : (i target : ℕ) → i < 7 → target < 21 → asksOne (tableEntry (2 * i + 2) target) target ≡ true
+unfolding asksOne allBelow tableEntry isTest isUnlocked isLocked testIndex if_then_else_
 locked-asks i target l h =
-    all-at 21 (λ t. asksOne (transition (2 * i + 2) t) t) (to-T (all-at 7 (λ i. allBelow 21 (λ t. asksOne (transition (2 * i + 2) t) t)) tt i l)) target h
+    all-at 21 (λ t. asksOne (tableEntry (2 * i + 2) t) t) (to-T (all-at 7 (λ i. allBelow 21 (λ t. asksOne (tableEntry (2 * i + 2) t) t)) tt i l)) target h
 
 module _ (prims : Primitives) (map : Map) (machine : Machine) where
   one-of : (given target : ℕ) (k : Token) → asksOne (Allowed k) target ≡ true → (target ≡ 20 → ⊥) → Compared prims map machine given true k
@@ -99,9 +99,10 @@ module _ (prims : Primitives) (map : Map) (machine : Machine) where
       → Compared prims map machine (high * 2 ^ 64 + low) true token.TestUnlock ⊎ Compared prims map machine (high * 2 ^ 64 + low) true token.TestExit
   out-of-locked i target high low l e n z =
       let a = tokens-compared prims map machine target high low .0 z in
-      let allowed : transition (2 * i + 2) target ≡ Allowed (a .token) = sym (ap (λ (s : ℕ). transition s target) e) ∙ a .allowed in
+      let allowed : tableEntry (2 * i + 2) target ≡ Allowed (a .token) = sym (ap (λ (s : ℕ). tableEntry s target) e) ∙ a .allowed in
       let within = allowed-ends (2 * i + 2) target allowed .within in
-      one-of (high * 2 ^ 64 + low) target (a .token) (subst (λ (x : Entry). asksOne x target ≡ true) allowed (locked-asks i target l (omega (arith, within)))) n (a .compared)
+      one-of (high * 2 ^ 64 + low) target (a .token)
+      (subst (λ (x : Entry). asksOne x target ≡ true) allowed (locked-asks i target l (omega (arith, within)))) n (a .compared)
 
   to-rma : (high low : ℕ) → ((machine .session .state ≡ 16) ⊎ (machine .session .state ≡ 17))
       → codeOf (answerTo prims map (Transition 19 high low) machine) ≡ 0x00 → Compared prims map machine (high * 2 ^ 64 + low) true token.Rma
@@ -110,11 +111,11 @@ module _ (prims : Primitives) (map : Map) (machine : Machine) where
       a : Asked prims map machine 19 (high * 2 ^ 64 + low) true
       a = tokens-compared prims map machine 19 high low .0 z
 
-      dev : machine .session .state ≡ 16 → transition (machine .session .state) 19 ≡ Allowed token.Rma
-      dev e = unfold transition isTest isUnlocked isLocked testIndex if_then_else_ in (rw e refl)
+      dev : machine .session .state ≡ 16 → tableEntry (machine .session .state) 19 ≡ Allowed token.Rma
+      dev e = unfold tableEntry isTest isUnlocked isLocked testIndex if_then_else_ in (rw e refl)
 
-      prod : machine .session .state ≡ 17 → transition (machine .session .state) 19 ≡ Allowed token.Rma
-      prod e = unfold transition isTest isUnlocked isLocked testIndex if_then_else_ in (rw e refl)
+      prod : machine .session .state ≡ 17 → tableEntry (machine .session .state) 19 ≡ Allowed token.Rma
+      prod e = unfold tableEntry isTest isUnlocked isLocked testIndex if_then_else_ in (rw e refl)
 
 module _ (prims : Primitives) (map : Map) where
   pub life-cycles : LifeCycles prims map

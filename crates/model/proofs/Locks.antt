@@ -13,19 +13,18 @@ use Rattle.words.proofs.Parts.{part-same}
 use Rattle.partitions.specs.Fitness.{fit}
 use Rattle.partitions.proofs.Map.{only, partition-fit, digest-below-ten, life-cycle-partition}
 use Rattle.partitions.specs.Map.{Map, partition, numberOfKind}
-use Rattle.model.specs.declared.Session.{Session}
 use Rattle.model.specs.declared.Command.{Command}
 use Rattle.model.specs.declared.Command.the-variants.{PowerUp}
 use Rattle.model.specs.Session.{isReady, sensedAt}
 use Rattle.model.specs.Lent.{Lent, Machine, Primitives}
-use Rattle.model.specs.Acts.{Turn, stay, lock, halt, die, turned}
 use Rattle.model.specs.Commands.{storedDigest}
-use Rattle.model.specs.PowerUp.{sensedDigest, digests, Waking, fails, wakes, waking, wokenSession}
+use Rattle.model.specs.PowerUp.{sensedDigest, digests, PowerUpEnd, fails, succeeds, powerUpEnd, poweredSession}
 use Rattle.model.specs.Step.{Step, unchanged, performed, act, powerUp, after, machineAfter}
-use Rattle.model.specs.Claims.Terms.{Right, Digested, SamePartition}
+use Rattle.model.specs.Claims.Terms.{ValidInputs, Digested, SamePartition}
 use Rattle.model.proofs.Acts.{perform-frame}
-use Rattle.model.proofs.Frame.{Open, unlocked, lifeCycle, act-within}
-use Rattle.model.proofs.Steps.{after-append, step-all, step-up, after-right, acted, poweredUp}
+use Rattle.model.proofs.Frame.{Programmable, unlocked, lifeCycle, act-open}
+use Rattle.model.proofs.Steps.{after-append, step-all, step-up, after-inputs, afterAct, poweredUp}
+use Rattle.model.proofs.Effects.{effect-ready, effect-sensed}
 use Rattle.partitions.specs.declared.Kind.the-variants as kind
 
 pub same-refl : {map : Map} {n : ℕ} {c : List ℕ} → SamePartition map n c c
@@ -33,21 +32,6 @@ same-refl = record { at = λ j l u. refl }
 
 pub same-trans : {map : Map} {n : ℕ} {c d e : List ℕ} → SamePartition map n c d → SamePartition map n d e → SamePartition map n c e
 same-trans f g = record { at = λ j l u. f .at j l u ∙ g .at j l u }
-
--- a turn leaves what was sensed, and makes no phase Ready
-pub turned-sensed : (t : Turn) (s : Session) → turned t s .sensed ≡ s .sensed
-unfolding turned
-turned-sensed stay s = refl
-turned-sensed (lock number) s = refl
-turned-sensed halt s = refl
-turned-sensed die s = refl
-
-pub turned-ready : (t : Turn) (s : Session) → isReady (turned t s .phase) ≡ true → isReady (s .phase) ≡ true
-unfolding turned isReady
-turned-ready stay s e = e
-turned-ready (lock number) s e = e
-turned-ready halt s e = absurd (true-not-false e refl)
-turned-ready die s e = absurd (true-not-false e refl)
 
 module _ (prims : Primitives) (map : Map) (F : fit map ≡ true) (n : ℕ) (D : Digested map n) where
   pub sensed-stored : (l : Lent) → getD (digests (l .cells) map) n 0 ≡ storedDigest (partition map n) (l .cells)
@@ -64,34 +48,36 @@ module _ (prims : Primitives) (map : Map) (F : fit map ≡ true) (n : ℕ) (D : 
   -- the partition is locked: its stored digest is nonzero, and a Ready record has sensed it
   pub record Locked (m : Machine) : Type 0 where
     pub burnt : storedDigest (partition map n) (m .lent .cells) ≡ 0 → ⊥
-    pub felt : isReady (m .session .phase) ≡ true → sensedAt (m .session) n ≡ 0 → ⊥
+    pub isSensed : isReady (m .session .phase) ≡ true → sensedAt (m .session) n ≡ 0 → ⊥
 
-  woken-felt : (w : Waking) (l : Lent) → (storedDigest (partition map n) (l .cells) ≡ 0 → ⊥)
-      → isReady (wokenSession map w l .phase) ≡ true → sensedAt (wokenSession map w l) n ≡ 0 → ⊥
-  unfolding wokenSession isReady sensedAt
-  woken-felt (fails reason answer) l h r z = true-not-false r refl
-  woken-felt (wakes state count) l h r z = h (sym (sensed-stored l) ∙ z)
+  powered-sensed : (w : PowerUpEnd) (l : Lent) → (storedDigest (partition map n) (l .cells) ≡ 0 → ⊥)
+      → isReady (poweredSession map w l .phase) ≡ true → sensedAt (poweredSession map w l) n ≡ 0 → ⊥
+  unfolding poweredSession isReady sensedAt
+  powered-sensed (fails reason answer) l h r z = true-not-false r refl
+  powered-sensed (succeeds state count) l h r z = h (sym (sensed-stored l) ∙ z)
 
   pub up-locked : (m : Machine) → (storedDigest (partition map n) (m .lent .cells) ≡ 0 → ⊥) → Locked (poweredUp prims map m)
   unfolding powerUp
-  up-locked m h = record { burnt = h; felt = woken-felt (waking prims map (m .lent)) (m .lent) h }
+  up-locked m h = record { burnt = h; isSensed = powered-sensed (powerUpEnd prims map (m .lent)) (m .lent) h }
 
-  shut : (x : Command) (m : Machine) → Locked m → (j : ℕ) → partition map n .start ≤ 2 * j → 2 * j < partition map n .end → Open map x (m .session) j → ⊥
-  shut x m k j l u (unlocked r d z aim) = k .felt r (rw (only map F (D .known) l u) at z)
+  shut : (x : Command) (m : Machine) → Locked m → (j : ℕ) → partition map n .start ≤ 2 * j → 2 * j < partition map n .end → Programmable map x (m .session) j
+      → ⊥
+  shut x m k j l u (unlocked r d z aim) = k .isSensed r (rw (only map F (D .known) l u) at z)
   shut x m k j l u (lifeCycle r t e) =
       let q : n ≡ numberOfKind map kind.LifeCycle = sym (only map F (D .known) l u) ∙ e in
       true-not-false (D .direct) (rw (← q) at (life-cycle-partition map F .closed))
 
-  pub act-same : (x : Command) (m : Machine) → Locked m → SamePartition map n (m .lent .cells) (acted prims map x m .lent .cells)
+  pub act-same : (x : Command) (m : Machine) → Locked m → SamePartition map n (m .lent .cells) (afterAct prims map x m .lent .cells)
   unfolding act performed
-  act-same x m k = record { at = λ j l u. sym (perform-frame (act-within prims map F m x) (m .lent .copy) (m .lent .cells) j (shut x m k j l u)) }
+  act-same x m k = record { at = λ j l u. sym (perform-frame (act-open prims map F m x) (m .lent) j (shut x m k j l u)) }
 
-  act-felt : (x : Command) (m : Machine) → Locked m → isReady (acted prims map x m .session .phase) ≡ true → sensedAt (acted prims map x m .session) n ≡ 0 → ⊥
+  act-sensed : (x : Command) (m : Machine) → Locked m → isReady (afterAct prims map x m .session .phase) ≡ true
+      → sensedAt (afterAct prims map x m .session) n ≡ 0 → ⊥
   unfolding act performed sensedAt
-  act-felt x m k r z = k .felt (turned-ready _ (m .session) r) (rw turned-sensed at z)
+  act-sensed x m k r z = k .isSensed (effect-ready _ (m .session) r) (rw effect-sensed at z)
 
-  pub act-locked : (x : Command) (m : Machine) → Locked m → Locked (acted prims map x m)
-  act-locked x m k = record { burnt = λ z. k .burnt (stored-same _ _ (act-same x m k) ∙ z); felt = act-felt x m k }
+  pub act-locked : (x : Command) (m : Machine) → Locked m → Locked (afterAct prims map x m)
+  act-locked x m k = record { burnt = λ z. k .burnt (stored-same _ _ (act-same x m k) ∙ z); isSensed = act-sensed x m k }
 
   up-same : (m : Machine) → SamePartition map n (m .lent .cells) (poweredUp prims map m .lent .cells)
   unfolding powerUp
@@ -113,16 +99,17 @@ module _ (prims : Primitives) (map : Map) (F : fit map ≡ true) (n : ℕ) (D : 
       let t = after-locked l (machineAfter prims map x m) (s .0) in
       (t .0, same-trans (s .1) (t .1))
 
-  first-locked : (m : Machine) → Right map m → (storedDigest (partition map n) (m .lent .cells) ≡ 0 → ⊥)
+  first-locked : (m : Machine) → ValidInputs map m → (storedDigest (partition map n) (m .lent .cells) ≡ 0 → ⊥)
       → Locked (machineAfter prims map PowerUp m) × SamePartition map n (m .lent .cells) (machineAfter prims map PowerUp m .lent .cells)
   first-locked m r h = rw (step-up prims map m r, machineAfter) (up-locked m h, up-same m)
 
   -- from a power-up that found it locked on, the partition is locked and the same
-  pub locked-since : (m : Machine) → Right map m → (l₁ l₂ : List Command) → (storedDigest (partition map n) (after prims map l₁ m .lent .cells) ≡ 0 → ⊥)
-      → Locked (after prims map (l₁ ++ PowerUp ∷ l₂) m) × SamePartition map n (after prims map l₁ m .lent .cells) (after prims map (l₁ ++ PowerUp ∷ l₂) m .lent .cells)
+  pub locked-since : (m : Machine) → ValidInputs map m → (l₁ l₂ : List Command) → (storedDigest (partition map n) (after prims map l₁ m .lent .cells) ≡ 0 → ⊥)
+      → Locked (after prims map (l₁ ++ PowerUp ∷ l₂) m)
+      × SamePartition map n (after prims map l₁ m .lent .cells) (after prims map (l₁ ++ PowerUp ∷ l₂) m .lent .cells)
   unfolding after
   locked-since m r l₁ l₂ h =
       let m₁ = after prims map l₁ m in
-      let k = first-locked m₁ (after-right prims map l₁ m r) h in
+      let k = first-locked m₁ (after-inputs prims map l₁ m r) h in
       let t = after-locked l₂ (machineAfter prims map PowerUp m₁) (k .0) in
       rw after-append (t .0, same-trans (k .1) (t .1))

@@ -7,9 +7,8 @@ use native.Mathlib.Nat.{le-refl}
 use native.Mathlib.Omega.{arith}
 use lib.Dec.{eqb}
 use lib.ListN.{length, getD}
-use borrow.Author.Tests.{leb-false, le-leb, lt-leb, eqb-true, eqb-false, not-true}
+use borrow.Author.Tests.{leb-false, le-leb, lt-leb, eqb-true, eqb-false, not-true, eq-eqb}
 use Rattle.basics.proofs.Choice.{by-cases, and-left, and-right, and-both, and-false, if-true, if-false}
-use Rattle.words.specs.declared.Rule.{Rule}
 use Rattle.words.specs.declared.Rule.the-variants.{KeepBits, BlankOnly}
 use Rattle.words.specs.Words.{wordsOf, partAt}
 use Rattle.words.specs.Programming.{losesBit, programAnswer, programCells, Lowest}
@@ -24,21 +23,24 @@ use Rattle.partitions.proofs.Map.{inside}
 use Rattle.partitions.proofs.Granules.{OneGranule, size-words, granule-inside, granule-within, shared-word}
 use Rattle.model.specs.declared.Answer.the-variants.{Done, NotBlank}
 use Rattle.model.specs.declared.Command.{Command}
-use Rattle.model.specs.declared.Command.the-variants.{Read, Write, FrontRead, Digest, ReadLock, Transition, PowerUp}
+use Rattle.model.specs.declared.Command.the-variants.{Write, Digest, PowerUp}
 use Rattle.model.specs.Lent.{Machine, Primitives, rightLengths}
-use Rattle.model.specs.Acts.{turned, afterProgram, perform}
-use Rattle.model.specs.Commands.{directRule, digestRule, storedDigest, scrambled}
+use Rattle.model.specs.Acts.{effectOn, afterProgram, perform}
+use Rattle.model.specs.Commands.{directRule, digestRule, storedDigest, scrambled, writeDenied}
 use Rattle.model.specs.Step.{Step, unchanged, performed, act, obey, step, after, machineAfter, answerTo}
-use Rattle.model.specs.Claims.Terms.{Right, Cipher, spares, storedWords, Allowed, TakesEffect}
+use Rattle.model.specs.Claims.Terms.{ValidInputs, Cipher, notWritten, storedWords, Allowed, TakesEffect}
 use Rattle.model.specs.Claims.Demand3.{Ready}
 use Rattle.model.specs.Claims.Sensing.{Since}
 use Rattle.model.specs.Claims.OldRule.{InAuthState, twoWords, Gains, stays, gains, OldRule}
-use Rattle.model.proofs.Acts.{Burnt, left, burnt, perform-once}
-use Rattle.model.proofs.Targets.{Written, write-once, digest-rule}
-use Rattle.model.proofs.Steps.{outcome, lengths-of, step-right-lengths, after-right}
+use Rattle.model.specs.Session.{locking}
+use Rattle.model.proofs.Targets.{digest-rule, WriteBurns, left, burnt, write-burnt}
+use Rattle.model.proofs.Steps.{outcome, lengths-of, after-inputs, step-judged}
 use Rattle.model.proofs.Ready.{step-act}
 use Rattle.model.proofs.Since.{first-since, after-since}
 use Rattle.model.proofs.Writes.{write-decided, write-takes, step-stays}
+use Rattle.model.proofs.Forms.{Writes}
+use Rattle.model.proofs.Classes.{by-writing}
+use Rattle.model.proofs.Guards.{write-open}
 use Rattle.words.specs.declared.Programmed.the-variants as programmed
 
 -- ---- the rule of a place
@@ -82,6 +84,10 @@ module _ (prims : Primitives) (C : Cipher prims) (map : Map) (F : fit map ≡ tr
     not-digest : (rightsOf (p .kind) .hardware && inDigest p a) ≡ false
     not-digest = and-false (rightsOf (p .kind) .hardware) in-data
 
+    -- a write there is not denied where the partition is open
+    not-denied : (digest : ℕ) → digest ≡ 0 → writeDenied (locking digest) p a ≡ false
+    not-denied digest z = write-open p a (record { direct = direct; notDigest = not-digest; unlocked = ap not (eq-eqb digest 0 z) })
+
     four : granuleAt p a ≡ 4
     unfolding granuleAt
     four = if-false _ _ in-data ∙ inside map F (i .below) .fits .sized ∙ if-false _ _ plain
@@ -107,9 +113,9 @@ module _ (prims : Primitives) (C : Cipher prims) (map : Map) (F : fit map ≡ tr
     cells = m .lent .cells
 
     -- what a command that is no write to the granule makes of it
-    spared : (x : Command) → spares map a x (answerTo prims map x m)
+    unwritten : (x : Command) → notWritten map a x (answerTo prims map x m)
         → Gains a (twoWords cells a) x (answerTo prims map x m) (twoWords (machineAfter prims map x m .lent .cells) a)
-    spared x sp =
+    unwritten x sp =
         let e = sym (two i _) ∙ step-stays prims C map F a (i .below) (direct i) (not-digest i) x m sp ∙ two i cells in
         rw e stays
 
@@ -137,15 +143,17 @@ module _ (prims : Primitives) (C : Cipher prims) (map : Map) (F : fit map ≡ tr
       place-same = sym (place there) ∙ same ∙ place i
 
     -- a write that is done has become the two words
-    written : rightLengths map (m .lent) ≡ true → (b value : ℕ) {rule : Rule} {at : ℕ} {words : List ℕ} {answer : ℕ}
-        → Written prims map m b value rule at words answer
-        → firstWord (partitionAt map b) b ≡ firstWord (partitionAt map a) a
-        → programAnswer rule cells at words ≡ programmed.Done
+    written : rightLengths map (m .lent) ≡ true → (b value : ℕ) → Writes prims map m b → firstWord (partitionAt map b) b ≡ firstWord (partitionAt map a) a
+        → let rule = directRule (partitionAt map b) b in
+        let at = firstWord (partitionAt map b) b in
+        let words = storedWords prims map (m .lent .constants) b value in
+        programAnswer rule cells at words ≡ programmed.Done
         → Gains a (twoWords cells a) (Write b value) (Done 0) (twoWords (programCells rule cells at words) a)
-    written right b value {rule} {at} {words} w same done =
+    written right b value w same done =
         let t = there (w .below) same in
-        let spot : at ≡ a / 4 * 2 = w .place ∙ place t ∙ place-same (w .below) same in
-        let whole : words ≡ wordsOf 2 value = w .holds ∙ as-given t (m .lent .constants) value in
+        let rule = directRule (partitionAt map b) b in
+        let spot : firstWord (partitionAt map b) b ≡ a / 4 * 2 = place t ∙ place-same (w .below) same in
+        let whole = as-given t (m .lent .constants) value in
         let taken : twoWords (programCells rule cells (a / 4 * 2) (wordsOf 2 value)) a ≡ wordsOf 2 value =
         rw length-words at (program-takes rule cells (wordsOf 2 value) (a / 4 * 2) (rw length-words inside-cells) (rw (spot, whole) at done)) in
         rw (spot, whole, taken)
@@ -159,43 +167,39 @@ module _ (prims : Primitives) (C : Cipher prims) (map : Map) (F : fit map ≡ tr
         → Gains a (twoWords cells a) (Write b value) (answerTo prims map (Write b value) m) (twoWords (machineAfter prims map (Write b value) m .lent .cells) a)
     write-gains b value =
         by-cases (eqb (firstWord (partitionAt map b) b) (firstWord (partitionAt map a) a))
-        (λ t. step-right-lengths prims map After (Write b value) m (λ answer. unfold unchanged in stays)
-        (λ right. unfold obey act performed in (done right (eqb-true _ _ t) (perform-once (write-once prims map m b value) (m .lent .copy) cells))))
-        (λ t. spared (Write b value) (λ e. absurd (eqb-false _ _ t e)))
+        (λ t. step-judged prims map After (Write b value) m (λ e. unfold unchanged in stays) (λ e v. unfold unchanged in stays)
+        (λ right v. unfold obey act performed in (done right (eqb-true _ _ t) (write-burnt prims map m b value))))
+        (λ t. unwritten (Write b value) (λ e. absurd (eqb-false _ _ t e)))
       where
         After : Step → Type 0
         After s = Gains a (twoWords cells a) (Write b value) (s .result .answer) (twoWords (s .result .machine .lent .cells) a)
 
         done : rightLengths map (m .lent) ≡ true → firstWord (partitionAt map b) b ≡ firstWord (partitionAt map a) a
-            → Burnt (Written prims map m b value) cells (outcome prims map (Write b value) m)
+            → WriteBurns prims map m b value (outcome prims map (Write b value) m)
             → Gains a (twoWords cells a) (Write b value) (outcome prims map (Write b value) m .answer) (twoWords (outcome prims map (Write b value) m .cells) a)
         done right same (left e) = rw e stays
-        done right same (burnt w k f e) = rw (f, e, w .answer) (written right b value w same k)
+        done right same (burnt w k f e) = rw (f, e) (written right b value w same k)
 
     step-gains : (x : Command) → Gains a (twoWords cells a) x (answerTo prims map x m) (twoWords (machineAfter prims map x m .lent .cells) a)
-    step-gains (Read b) = spared (Read b) tt
-    step-gains (Write b value) = write-gains b value
-    step-gains (FrontRead b) = spared (FrontRead b) tt
-    step-gains (Digest b) = spared (Digest b) tt
-    step-gains (ReadLock number) = spared (ReadLock number) tt
-    step-gains (Transition target high low) = spared (Transition target high low) tt
-    step-gains PowerUp = spared PowerUp tt
+    step-gains =
+        by-writing (λ (x : Command). Gains a (twoWords cells a) x (answerTo prims map x m) (twoWords (machineAfter prims map x m .lent .cells) a)) write-gains
+        (λ b. unwritten (Digest b) tt) (λ x e. unwritten x (rw (e, notWritten) tt))
 
   -- ---- a write that clears a bit, on a chip that is Ready since a power-up that found the cells c₀
 
   clears-refused : {a : ℕ} → InAuthState map a → (c₀ : List ℕ) (m : Machine) → Since prims map c₀ m → storedDigest (partitionAt map a) c₀ ≡ 0
       → (value j : ℕ) → Lowest KeepBits (m .lent .cells) (a / 4 * 2) (wordsOf 2 value) j
       → (answerTo prims map (Write a value) m ≡ NotBlank j) × (machineAfter prims map (Write a value) m ≡ m)
-  unfolding act performed perform afterProgram turned
+  unfolding act performed perform afterProgram effectOn
   clears-refused {a} i c₀ m f z value j low =
-      let e = write-decided prims C map F c₀ m f a value (i .below) (direct i) (not-digest i) z in
+      let e = write-decided prims C map F c₀ m f a value (i .below) (not-denied i _ z) in
       let q = lowest-refused KeepBits (wordsOf 2 value) (m .lent .cells) (a / 4 * 2) j low in
       let old = auth-state-old (partitionAt map a) a (i .isAuthState) (i .isData) in
       rw (machineAfter, answerTo, step-act prims map (Write a value) m (f .right) tt, e, old, place i, as-given i (m .lent .constants) value, q) (refl, refl)
 
   -- ---- a write on a Ready chip: any commands l₀, a power-up that answers 0, commands l₁ while Ready lasts
 
-  module _ (m : Machine) (r : Right map m) (l₀ l₁ : List Command) (ready : Ready prims map m l₀ l₁) {a : ℕ} (i : InAuthState map a) where
+  module _ (m : Machine) (r : ValidInputs map m) (l₀ l₁ : List Command) (ready : Ready prims map m l₀ l₁) {a : ℕ} (i : InAuthState map a) where
     abbrev c₀ : List ℕ
     c₀ = after prims map l₀ m .lent .cells
 
@@ -203,7 +207,7 @@ module _ (prims : Primitives) (C : Cipher prims) (map : Map) (F : fit map ≡ tr
     m₁ = after prims map l₁ (machineAfter prims map PowerUp (after prims map l₀ m))
 
     since : Since prims map c₀ m₁
-    since = after-since prims map F c₀ l₁ _ (ready .lasts) (first-since prims map F _ (after-right prims map l₀ m r) (ready .woke))
+    since = after-since prims map F c₀ l₁ _ (ready .lasts) (first-since prims map F _ (after-inputs prims map l₀ m r) (ready .succeeded))
 
     adding-taken : (value : ℕ) → storedDigest (partitionAt map a) c₀ ≡ 0
         → ((j : ℕ) → j < 2 → losesBit (getD (twoWords (m₁ .lent .cells) a) j 0) (getD (wordsOf 2 value) j 0) ≡ false)
@@ -213,9 +217,7 @@ module _ (prims : Primitives) (C : Cipher prims) (map : Map) (F : fit map ≡ tr
         allowed : Allowed prims map (m₁ .lent .constants) c₀ (m₁ .lent .cells) a value
         allowed = record {
           below = i .below;
-          direct = direct i;
-          notDigest = not-digest i;
-          unlocked = z;
+          notDenied = not-denied i _ z;
           takes = rw (auth-state-old (partitionAt map a) a (i .isAuthState) (i .isData), place i, as-given i (m₁ .lent .constants) value)
               (covered-done (wordsOf 2 value) (m₁ .lent .cells) (a / 4 * 2) (λ j l. rw length-words (h j (rw length-words at l))));
         }

@@ -1,4 +1,5 @@
--- The refusals that all commands share. The idea: once what is lent is right, no act and no power-up answers 0x10 or 0x12; which answers an act gives is read off its ends.
+-- The refusals that all commands share. The idea: once what is lent is right, no act and no power-up answers 0x10 or 0x12; which answers an act gives is read
+-- off its ends.
 use mathlib.Core.Path.{_≡_, refl, ap, _∙_}
 use mathlib.Core.Bool.{true, false, not, _||_}
 use mathlib.Core.List.{List}
@@ -7,39 +8,42 @@ use Prim.Native.Nat.{ℕ, _+_, _<_}
 use native.Mathlib.Omega.{arith}
 use lib.Dec.{eqb}
 use lib.ListN.{getD}
-use borrow.Author.Tests.{eqb-false, eq-eqb, ne-eqb, not-false, not-true}
+use borrow.Author.Tests.{eqb-false, eq-eqb, ne-eqb}
 use Rattle.basics.specs.Range.{allBelow}
 use Rattle.basics.proofs.Choice.{true-not-false, to-T, and-left, and-right, and-both, if-both}
 use Rattle.basics.proofs.Range.{all-at, all-below}
 use Rattle.words.proofs.Rules.{or-keeps, keeps-or}
 use Rattle.partitions.specs.Map.{Map}
-use Rattle.life_cycle.specs.Constants.{constC, constD, constA, constB, pairValid, validConstants}
-use Rattle.life_cycle.specs.Transitions.{transition}
-use Rattle.life_cycle.proofs.Constants.{pair}
+use Rattle.constants.specs.Constants.{constC, constD, constA, constB, pairValid, validConstants}
+use Rattle.constants.proofs.Constants.{pair}
 use Rattle.model.specs.declared.Phase.{Phase}
 use Rattle.model.specs.declared.Answer.{Answer}
-use Rattle.model.specs.declared.Answer.the-variants.{Done, NotBlank, Denied, DigestFailed, NotReady, LifeCycleFailed, WrongLength, UnknownTarget, InvalidConstants, StrokesUsed, NotInTable, TokenNotLocked, TokenDiffers}
+use Rattle.model.specs.declared.Answer.the-variants.{Done, NotBlank, Denied, DigestFailed, NotReady, LifeCycleFailed, WrongLength, UnknownTarget}
+use Rattle.model.specs.declared.Answer.the-variants.{InvalidConstants, StrokesUsed, NotInTable, TokenNotLocked, TokenDiffers}
 use Rattle.model.specs.declared.Command.{Command}
-use Rattle.model.specs.declared.Command.the-variants.{Read, Write, FrontRead, Digest, ReadLock, Transition, PowerUp}
+use Rattle.model.specs.declared.Command.the-variants.{PowerUp}
 use Rattle.model.specs.Answers.{codeOf, valueOf}
 use Rattle.model.specs.Session.{isReady}
-use Rattle.model.specs.Lent.{Lent, Machine, Primitives, rightLengths}
-use Rattle.model.specs.Acts.{Turn, Act, Performed, perform}
-use Rattle.model.specs.Commands.{writeAct, readAct, frontReadAct, digestAct, readLockAct, transitionAct, commandAct, readyAct}
-use Rattle.model.specs.PowerUp.{verdictOf, lifeCycleIn, waking}
-use Rattle.model.specs.Step.{Step, unchanged, performed, act, powerUp, obey, step, machineAfter, answerTo}
+use Rattle.model.specs.Lent.{Lent, Machine, Primitives, rightLengths, rightSizes}
+use Rattle.model.specs.Acts.{Effect, Act, Performed, perform, noEffect}
+use Rattle.model.specs.Commands.{readyAct}
+use Rattle.model.specs.PowerUp.{verdictOf, lifeCycleIn, powerUpEnd}
+use Rattle.model.specs.Step.{Step, unchanged, performed, act, powerUp, obey, machineAfter, answerTo}
 use Rattle.model.specs.Claims.Terms.{Says, notPowerUp}
 use Rattle.model.specs.Claims.Order.{Lengths, ValidPair, ValidPairs, valued, Order}
-use Rattle.model.proofs.Acts.{Gives, perform-gives, gives-either}
-use Rattle.model.proofs.Transitions.{Ends, entry-gives}
-use Rattle.model.proofs.Steps.{judged-obeys, obeys-act, lengths-of}
-use Rattle.model.proofs.Waking.{woken-answer}
-use Rattle.model.proofs.NotReady.{no-power-up, step-not-ready}
+use Rattle.model.proofs.Acts.{Gives, perform-gives}
+use Rattle.model.proofs.Transitions.{Ends}
+use Rattle.model.proofs.Steps.{judged-obeys, obeys-act, lengths-of, obey-both, step-judged}
+use Rattle.model.proofs.PowerUpEnd.{powered-answer}
+use Rattle.model.proofs.NotReady.{step-not-ready}
+use Rattle.model.proofs.Classes.{no-power-up}
+use Rattle.model.proofs.Forms.{Refuses}
+use Rattle.model.proofs.Leaves.{act-gives}
 use Rattle.model.specs.declared.Phase.the-variants as phase
 
 -- ---- the answers of an act
 
-abbrev Acted : Answer → Turn → Type 0
+abbrev Acted : Answer → Effect → Type 0
 Acted (Done value) t = Unit {0}
 Acted (NotBlank cell) t = Unit {0}
 Acted Denied t = Unit {0}
@@ -58,7 +62,7 @@ Acted TokenDiffers t = Unit {0}
 abbrev Plain : Answer → Type 0
 Plain answer = (eqb (codeOf answer) 0x10 ≡ false) × (eqb (codeOf answer) 0x12 ≡ false)
 
-acted-plain : (answer : Answer) (t : Turn) → Acted answer t → Plain answer × (valued (codeOf answer) ≡ false → valueOf answer ≡ 0)
+acted-plain : (answer : Answer) (t : Effect) → Acted answer t → Plain answer × (valued (codeOf answer) ≡ false → valueOf answer ≡ 0)
 acted-plain (Done value) t h = ((refl, refl), λ e. absurd (true-not-false refl e))
 acted-plain (NotBlank cell) t h = ((refl, refl), λ e. absurd (true-not-false refl e))
 acted-plain Denied t h = ((refl, refl), λ e. refl)
@@ -70,49 +74,38 @@ acted-plain TokenNotLocked t h = ((refl, refl), λ e. refl)
 acted-plain TokenDiffers t h = ((refl, refl), λ e. refl)
 
 acted-ends : Ends Acted
-acted-ends = record { not-blank = λ cell. tt; moved = tt; forbidden = tt; open? = tt; differs = tt }
+acted-ends = record { not-blank = λ cell. tt; moved = tt; forbidden = tt; tokenUnlocked = tt; differs = tt }
 
 module _ (prims : Primitives) (map : Map) (m : Machine) where
-  command-acted : (x : Command) → Gives Acted (commandAct prims map m x)
-  unfolding commandAct writeAct readAct frontReadAct digestAct readLockAct transitionAct
-  command-acted (Read a) = search (gives-either, Gives.says) depth 9
-  command-acted (Write a value) = search (gives-either, Gives.says, Gives.programs) depth 9
-  command-acted (FrontRead a) = search (gives-either, Gives.says) depth 9
-  command-acted (Digest a) = search (gives-either, Gives.says, Gives.programs) depth 9
-  command-acted (ReadLock number) = search (gives-either, Gives.says) depth 9
-  command-acted (Transition target high low) =
-      gives-either _ (Gives.says tt) (gives-either _ (Gives.says tt) (gives-either _ (Gives.says tt)
-      (Gives.programs (λ cell. tt) (entry-gives acted-ends prims map m (transition (m .session .state) target) target _))))
-  command-acted PowerUp = Gives.says tt
-
   ready-acted : (x : Command) → Gives Acted (readyAct prims map m x)
-  unfolding readyAct
-  ready-acted x = gives-either (not (isReady (m .session .phase))) (Gives.says tt) (command-acted x)
+  ready-acted x =
+      act-gives prims map m
+      (record { refused = refused-acted; done = λ q value. tt; notBlank = λ q cell. tt; locked = λ n e. tt; used = λ e. tt; spent = λ e. acted-ends })
+    where
+      refused-acted : {y : Command} {answer : Answer} → Refuses y answer → Acted answer noEffect
+      refused-acted (Refuses.denied q) = tt
+      refused-acted Refuses.notReady = tt
+      refused-acted Refuses.unknownTarget = tt
 
-  act-acted : (x : Command) → Plain (act prims map x m .result .answer) × (valued (codeOf (act prims map x m .result .answer)) ≡ false → valueOf (act prims map x m .result .answer) ≡ 0)
+  act-acted : (x : Command) → Plain (act prims map x m .result .answer)
+      × (valued (codeOf (act prims map x m .result .answer)) ≡ false → valueOf (act prims map x m .result .answer) ≡ 0)
   unfolding act performed
   act-acted x =
-      let r : Performed = perform (readyAct prims map m x) (m .lent .copy) (m .lent .cells) in
-      acted-plain (r .answer) (r .turn) (perform-gives (ready-acted x) (m .lent .copy) (m .lent .cells))
+      let r : Performed = perform (readyAct prims map m x) (m .lent) in
+      acted-plain (r .answer) (r .effect) (perform-gives (ready-acted x) (m .lent))
 
   up-plain : Plain (powerUp prims map m .result .answer)
-  unfolding powerUp waking
-  up-plain = woken-answer Plain (verdictOf prims map (m .lent)) (lifeCycleIn map (m .lent)) (λ value. (refl, refl)) (λ number. (refl, refl)) (λ value. (refl, refl))
+  unfolding powerUp powerUpEnd
+  up-plain =
+      powered-answer Plain (verdictOf prims map (m .lent)) (lifeCycleIn map (m .lent)) (λ value. (refl, refl)) (λ number. (refl, refl)) (λ value. (refl, refl))
 
   obey-plain : (x : Command) → Plain (obey prims map x m .result .answer)
-  unfolding obey
-  obey-plain (Read a) = act-acted (Read a) .0
-  obey-plain (Write a value) = act-acted (Write a value) .0
-  obey-plain (FrontRead a) = act-acted (FrontRead a) .0
-  obey-plain (Digest a) = act-acted (Digest a) .0
-  obey-plain (ReadLock number) = act-acted (ReadLock number) .0
-  obey-plain (Transition target high low) = act-acted (Transition target high low) .0
-  obey-plain PowerUp = up-plain
+  obey-plain x = obey-both prims map (λ s _. Plain (s .result .answer)) x m m up-plain (act-acted x .0)
 
 -- ---- lengths
 
 lengths-right : (map : Map) (l : Lent) → Lengths map l → rightLengths map l ≡ true
-unfolding rightLengths
+unfolding rightSizes
 lengths-right map l h = and-both _ _ (and-both _ _ (eq-eqb _ _ (h .cells)) (eq-eqb _ _ (h .copy))) (eq-eqb _ _ (h .constants))
 
 right-lengths : (prims : Primitives) (map : Map) (l : Lent) → rightLengths map l ≡ true → Lengths map l
@@ -122,7 +115,8 @@ right-lengths prims map l e = let h = lengths-of prims map l e in record { cells
 
 pair-valid : (low up : ℕ) → ValidPair low up → pairValid low up ≡ true
 unfolding pairValid
-pair-valid low up p = and-both _ _ (and-both _ _ (ap not (ne-eqb low 0 (p .nonzero))) (ap not (ne-eqb low up (p .differs)))) (ap not (or-keeps low up (p .covered)))
+pair-valid low up p =
+    and-both _ _ (and-both _ _ (ap not (ne-eqb low 0 (p .nonzero))) (ap not (ne-eqb low up (p .differs)))) (ap not (or-keeps low up (p .covered)))
 
 valid-pair : (low up : ℕ) → low < 65536 → pairValid low up ≡ true → ValidPair low up
 valid-pair low up l e = let p = pair low up e in record { nonzero = p .nonzero; differs = p .differs; covered = keeps-or low up l (p .covered) }
@@ -134,8 +128,12 @@ pairs-valid k v = and-both _ _ (all-below 24 _ (λ i l. pair-valid _ _ (v .count
 valid-pairs : (k : List ℕ) → ((i : ℕ) → getD k i 0 < 65536) → validConstants k ≡ true → ValidPairs k
 unfolding validConstants
 valid-pairs k h e = record {
-  counter = λ i l. valid-pair _ _ (h (36 + i)) (all-at 24 (λ i. pairValid (constC k i) (constD k i)) (to-T (and-left (allBelow 24 (λ i. pairValid (constC k i) (constD k i))) _ e)) i l);
-  state = λ i l. valid-pair _ _ (h (84 + i)) (all-at 20 (λ i. pairValid (constA k i) (constB k i)) (to-T (and-right (allBelow 24 (λ i. pairValid (constC k i) (constD k i))) _ e)) i l);
+  counter =
+      λ i l. valid-pair _ _ (h (36 + i))
+      (all-at 24 (λ i. pairValid (constC k i) (constD k i)) (to-T (and-left (allBelow 24 (λ i. pairValid (constC k i) (constD k i))) _ e)) i l);
+  state =
+      λ i l. valid-pair _ _ (h (84 + i))
+      (all-at 20 (λ i. pairValid (constA k i) (constB k i)) (to-T (and-right (allBelow 24 (λ i. pairValid (constC k i) (constD k i))) _ e)) i l);
 }
 
 -- ---- the order
@@ -149,52 +147,48 @@ not-ready-phase (phase.Dead reason) n = refl
 
 module _ (prims : Primitives) (map : Map) (m : Machine) (x : Command) where
   wrong-length : (codeOf (answerTo prims map x m) ≡ 0x10) ↔ (Lengths map (m .lent) → ⊥)
-  unfolding step unchanged
+  unfolding unchanged
   wrong-length =
-      if-both (λ (s : Step). (codeOf (s .result .answer) ≡ 0x10) ↔ (Lengths map (m .lent) → ⊥)) (not (rightLengths map (m .lent))) _ _
-      (λ t. ((λ q h. true-not-false (lengths-right map (m .lent) h) (not-true _ t)), λ n. refl))
-      λ t. if-both (λ (s : Step). (codeOf (s .result .answer) ≡ 0x10) ↔ (Lengths map (m .lent) → ⊥)) (not (validConstants (m .lent .constants))) _ _
-      (λ u. ((λ q. absurd (omega (arith, q))), λ n. absurd (n (right-lengths prims map (m .lent) (not-false _ t)))))
-      (λ u. ((λ q. absurd (eqb-false _ _ (obey-plain prims map m x .0) q)), λ n. absurd (n (right-lengths prims map (m .lent) (not-false _ t)))))
+      step-judged prims map (λ (s : Step). (codeOf (s .result .answer) ≡ 0x10) ↔ (Lengths map (m .lent) → ⊥)) x m
+      (λ t. ((λ q h. true-not-false (lengths-right map (m .lent) h) t), λ n. refl))
+      (λ t u. ((λ q. absurd (omega (arith, q))), λ n. absurd (n (right-lengths prims map (m .lent) t))))
+      (λ t u. ((λ q. absurd (eqb-false _ _ (obey-plain prims map m x .0) q)), λ n. absurd (n (right-lengths prims map (m .lent) t))))
 
   wrong-constants : ((i : ℕ) → getD (m .lent .constants) i 0 < 65536) → Lengths map (m .lent)
       → (codeOf (answerTo prims map x m) ≡ 0x12) ↔ (ValidPairs (m .lent .constants) → ⊥)
-  unfolding step unchanged
+  unfolding unchanged
   wrong-constants w h =
-      if-both (λ (s : Step). (codeOf (s .result .answer) ≡ 0x12) ↔ (ValidPairs (m .lent .constants) → ⊥)) (not (rightLengths map (m .lent))) _ _
-      (λ t. absurd (true-not-false (lengths-right map (m .lent) h) (not-true _ t)))
-      λ t. if-both (λ (s : Step). (codeOf (s .result .answer) ≡ 0x12) ↔ (ValidPairs (m .lent .constants) → ⊥)) (not (validConstants (m .lent .constants))) _ _
-      (λ u. ((λ q v. true-not-false (pairs-valid (m .lent .constants) v) (not-true _ u)), λ n. refl))
-      (λ u. ((λ q. absurd (eqb-false _ _ (obey-plain prims map m x .1) q)), λ n. absurd (n (valid-pairs (m .lent .constants) w (not-false _ u)))))
+      step-judged prims map (λ (s : Step). (codeOf (s .result .answer) ≡ 0x12) ↔ (ValidPairs (m .lent .constants) → ⊥)) x m
+      (λ t. absurd (true-not-false (lengths-right map (m .lent) h) t))
+      (λ t u. ((λ q v. true-not-false (pairs-valid (m .lent .constants) v) u), λ n. refl))
+      (λ t u. ((λ q. absurd (eqb-false _ _ (obey-plain prims map m x .1) q)), λ n. absurd (n (valid-pairs (m .lent .constants) w u))))
 
   not-ready : Lengths map (m .lent) → ValidPairs (m .lent .constants) → notPowerUp x → (m .session .phase ≡ phase.Ready → ⊥)
       → Says 0x07 0 (answerTo prims map x m) × (machineAfter prims map x m ≡ m)
   unfolding act performed readyAct perform
   not-ready h v u n =
       let e = not-ready-phase (m .session .phase) n in
-      let q = judged-obeys prims map x m (lengths-right map (m .lent) h) (pairs-valid (m .lent .constants) v) ∙ obeys-act prims map x m (no-power-up prims map x u) in (
-        rw (q, answerTo) (if-both (λ (a : Act). Says 0x07 0 (perform a (m .lent .copy) (m .lent .cells) .answer)) (not (isReady (m .session .phase))) _ _
+      let q = judged-obeys prims map x m (lengths-right map (m .lent) h) (pairs-valid (m .lent .constants) v) ∙ obeys-act prims map x m (no-power-up x u) in (
+        rw (q, answerTo) (if-both (λ (a : Act). Says 0x07 0 (perform a (m .lent) .answer)) (not (isReady (m .session .phase))) _ _
             (λ t. (refl, refl)) (λ t. absurd (true-not-false (ap not e) t))),
         step-not-ready prims map x m u e,
       )
 
   no-value : valued (codeOf (answerTo prims map x m)) ≡ false → (x ≡ PowerUp → ⊥) → valueOf (answerTo prims map x m) ≡ 0
-  unfolding step unchanged
+  unfolding unchanged
   no-value v n =
-      if-both (λ (s : Step). valued (codeOf (s .result .answer)) ≡ false → valueOf (s .result .answer) ≡ 0) (not (rightLengths map (m .lent))) _ _ (λ t e. refl)
-      (λ t. if-both (λ (s : Step). valued (codeOf (s .result .answer)) ≡ false → valueOf (s .result .answer) ≡ 0) (not (validConstants (m .lent .constants))) _ _ (λ u e. refl)
-      (λ u. rw (obeys-act prims map x m n) (act-acted prims map m x .1))) v
+      step-judged prims map (λ (s : Step). valued (codeOf (s .result .answer)) ≡ false → valueOf (s .result .answer) ≡ 0) x m (λ t e. refl) (λ t u e. refl)
+      (λ t u. rw (obeys-act prims map x m n) (act-acted prims map m x .1)) v
 
 module _ (prims : Primitives) (map : Map) where
   up-value : (m : Machine)
       → let code = codeOf (answerTo prims map PowerUp m) in
       (eqb code 0x10 || eqb code 0x12) ≡ true → valueOf (answerTo prims map PowerUp m) ≡ 0
-  unfolding step unchanged obey
+  unfolding unchanged obey
   up-value m =
       let Q : Step → Type 0 = λ s. (eqb (codeOf (s .result .answer)) 0x10 || eqb (codeOf (s .result .answer)) 0x12) ≡ true → valueOf (s .result .answer) ≡ 0 in
-      if-both Q (not (rightLengths map (m .lent))) _ _ (λ t e. refl)
-      (λ t. if-both Q (not (validConstants (m .lent .constants))) _ _ (λ u e. refl)
-      (λ u e. absurd (true-not-false e (rw (up-plain prims map m .0, up-plain prims map m .1) refl))))
+      step-judged prims map Q PowerUp m (λ t e. refl) (λ t u e. refl)
+      (λ t u e. absurd (true-not-false e (rw (up-plain prims map m .0, up-plain prims map m .1) refl)))
 
   pub order : Order prims map
   order = record {

@@ -1,5 +1,5 @@
--- Partitions and granules by address, in numbers. The idea: in a fit map partitions adjoin, so that the range holds the address of one alone; a granule of 4 or 8 bytes begins at a
--- multiple of its size.
+-- Partitions and granules by address, in numbers. The idea: in a fit map partitions adjoin, so that the range holds the address of one alone; a granule of 4 or
+-- 8 bytes begins at a multiple of its size.
 use mathlib.Core.Path.{_≡_, refl}
 use mathlib.Core.Bool.{true, false}
 use mathlib.Core.Logic.{_↔_}

@@ -1,159 +1,148 @@
 -- A refusal changes nothing. The idea: a command but transition and power-up says its only answer other than 0 with nothing done, or programs once
--- and refuses that; a transition refuses early with nothing done, or turns the phase with each later answer.
-use mathlib.Core.Path.{_≡_, refl, subst}
-use mathlib.Core.Bool.{Bool, true, false}
+-- and refuses that; a transition refuses early with nothing done, or changes the phase with each later answer.
+use mathlib.Core.Path.{_≡_, refl}
+use mathlib.Core.Bool.{true, false}
 use mathlib.Core.List.{List}
 use mathlib.Core.Option.{Option}
 use Prim.Native.Nat.{ℕ}
 use lib.Dec.{eqb}
 use borrow.Author.Tests.{eqb-false}
 use Rattle.basics.specs.Choice.{if_then_else_}
-use Rattle.basics.proofs.Choice.{if-both, true-not-false}
+use Rattle.basics.proofs.Choice.{true-not-false}
 use Rattle.words.specs.declared.Rule.{Rule}
 use Rattle.words.specs.Programming.{programAnswer}
 use Rattle.partitions.specs.Map.{Map}
 use Rattle.life_cycle.specs.declared.LifeCycle.{LifeCycle}
+use Rattle.life_cycle.specs.Transitions.{tableEntry}
 use Rattle.model.specs.declared.Answer.{Answer}
-use Rattle.model.specs.declared.Answer.the-variants.{Done, NotBlank, StrokesUsed, NotInTable, TokenNotLocked, TokenDiffers}
+use Rattle.model.specs.declared.Answer.the-variants.{Done, NotBlank, NotInTable, TokenNotLocked, TokenDiffers}
 use Rattle.model.specs.declared.Session.{Session}
 use Rattle.model.specs.declared.Command.{Command}
-use Rattle.model.specs.declared.Command.the-variants.{Read, Write, FrontRead, Digest, ReadLock, Transition, PowerUp}
+use Rattle.model.specs.declared.Command.the-variants.{Transition, PowerUp}
 use Rattle.model.specs.Session.{inPhase}
 use Rattle.model.specs.Answers.{codeOf}
 use Rattle.model.specs.Lent.{Machine, Primitives}
-use Rattle.model.specs.Acts.{Turn, stay, halt, die, Act, say, program, refuse, turned, Performed, perform}
-use Rattle.model.specs.Commands.{writeAct, readAct, frontReadAct, digestAct, readLockAct, transitionAct, commandAct, readyAct}
-use Rattle.model.specs.PowerUp.{wakingOf, verdictOf, lifeCycleIn, waking, wokenAnswer}
+use Rattle.model.specs.Acts.{Effect, noEffect, toInert, toDead, Act, say, program, effectOn, Performed, perform}
+use Rattle.model.specs.Commands.{readyAct}
+use Rattle.model.specs.PowerUp.{endOf, verdictOf, lifeCycleIn, powerUpEnd, poweredAnswer}
 use Rattle.model.specs.Step.{Step, unchanged, performed, act, powerUp, obey, step, machineAfter, answerTo}
 use Rattle.model.specs.Claims.Terms.{quiet}
-use Rattle.model.specs.Claims.Refusals.{judged, early, phaseAfter}
+use Rattle.model.specs.Claims.Refusals.{judgementCode, early, phaseAfter}
 use Rattle.model.proofs.Acts.{after-both, Gives, programs, perform-gives}
 use Rattle.model.proofs.Transitions.{Ends, entry-gives}
-use Rattle.model.proofs.Steps.{step-both, obeys-act}
-use Rattle.model.proofs.Waking.{woken-answer}
-
--- what an act came to that left the cells and turned nothing
-pub same-machine : (prims : Primitives) (map : Map) (m : Machine) (r : Performed) → r .cells ≡ m .lent .cells → r .turn ≡ stay
-    → performed r m .result .machine ≡ m
-unfolding performed turned
-same-machine prims map m r e f = rw (e, f) refl
+use Rattle.model.proofs.Steps.{step-both, obeys-act, same-machine}
+use Rattle.model.proofs.PowerUpEnd.{powered-answer}
+use Rattle.model.proofs.Forms.{Form, act-form, Refuses}
+use Rattle.model.proofs.Classes.{no-power-up, quiet-not-power-up}
 
 -- ---- the commands but transition and power-up
 
--- an act that changes something only where it answers 0
-data Clean : Act → Type 0 where
-  done : {value : ℕ} {turn : Turn} → Clean (say (Done value) turn)
-  refused : {answer : Answer} → Clean (refuse answer)
-  programmed : {rule : Rule} {at value : ℕ} {words : List ℕ} {turn : Turn} → Clean (program rule at words stay (say (Done value) turn))
-
 -- what an act that did not answer 0 came to
 abbrev Nothing-done : List ℕ → Performed → Type 0
-Nothing-done cells r = (codeOf (r .answer) ≡ 0x00 → ⊥) → (r .cells ≡ cells) × (r .turn ≡ stay)
-
-clean-either : (b : Bool) {x y : Act} → Clean x → Clean y → Clean (if b then x else y)
-clean-either b {x} {y} f g = if-both Clean b x y (λ e. f) (λ e. g)
-
-perform-clean : {x : Act} → Clean x → (copy cells : List ℕ) → Nothing-done cells (perform x copy cells)
-unfolding perform
-perform-clean done copy cells = λ h. absurd (h refl)
-perform-clean refused copy cells = λ h. (refl, refl)
-perform-clean (programmed {rule = rule} {at = at} {words = words}) copy cells =
-    after-both (Nothing-done cells) (programAnswer rule cells at words) _ _ (λ e h. absurd (h refl)) (λ cell e h. (refl, refl))
+Nothing-done cells r = (codeOf (r .answer) ≡ 0x00 → ⊥) → (r .cells ≡ cells) × (r .effect ≡ noEffect)
 
 module _ (prims : Primitives) (map : Map) (m : Machine) where
-  command-clean : (x : Command) → quiet x → Clean (readyAct prims map m x)
-  unfolding readyAct commandAct readAct writeAct frontReadAct digestAct readLockAct
-  command-clean (Read a) q = search (clean-either, done, refused) depth 9
-  command-clean (Write a value) q = search (clean-either, refused, programmed) depth 9
-  command-clean (FrontRead a) q = search (clean-either, done, refused) depth 9
-  command-clean (Digest a) q = search (clean-either, refused, programmed) depth 9
-  command-clean (ReadLock number) q = search (clean-either, done, refused) depth 9
-  command-clean (Transition target high low) q = absurd q
-  command-clean PowerUp q = absurd q
+  program-clean : (rule : Rule) (at : ℕ) (words : List ℕ) (value : ℕ)
+      → Nothing-done (m .lent .cells) (perform (program rule at words noEffect (say (Done value) noEffect)) (m .lent))
+  unfolding perform
+  program-clean rule at words value =
+      after-both (Nothing-done (m .lent .cells)) (programAnswer rule (m .lent .cells) at words) _ _ (λ e h. absurd (h refl)) (λ cell e h. (refl, refl))
+
+  form-clean : {x : Command} {act : Act} → quiet x → Form prims map m x act → Nothing-done (m .lent .cells) (perform act (m .lent))
+  unfolding perform
+  form-clean q (Form.refuses r) = λ h. (refl, refl)
+  form-clean q Form.reads = λ h. absurd (h refl)
+  form-clean q Form.frontReads = λ h. absurd (h refl)
+  form-clean q Form.locks = λ h. absurd (h refl)
+  form-clean q (Form.writes w) = program-clean _ _ _ _
+  form-clean q (Form.digests w) = program-clean _ _ _ _
+  form-clean q (Form.used t n) = absurd q
+  form-clean q (Form.spends t n) = absurd q
 
   act-clean : (x : Command) → quiet x → (codeOf (act prims map x m .result .answer) ≡ 0x00 → ⊥) → act prims map x m .result .machine ≡ m
   unfolding act performed
   act-clean x q h =
-      let r : Performed = perform (readyAct prims map m x) (m .lent .copy) (m .lent .cells) in
-      let left : (r .cells ≡ m .lent .cells) × (r .turn ≡ stay) = perform-clean (command-clean x q) (m .lent .copy) (m .lent .cells) h in
-      same-machine prims map m r (left .0) (left .1)
+      let r : Performed = perform (readyAct prims map m x) (m .lent) in
+      let left : (r .cells ≡ m .lent .cells) × (r .effect ≡ noEffect) = form-clean q (act-form prims map m x) h in
+      same-machine m r (left .0) (left .1)
 
   pub commands-refuse : (x : Command) → quiet x → (codeOf (answerTo prims map x m) ≡ 0x00 → ⊥) → machineAfter prims map x m ≡ m
   unfolding unchanged
   commands-refuse x q =
       step-both prims map (λ (s : Step). (codeOf (s .result .answer) ≡ 0x00 → ⊥) → s .result .machine ≡ m) x m (λ answer e h. refl)
-      (rw (obeys-act prims map x m (λ e. subst quiet e q)) (act-clean x q))
+      (rw (obeys-act prims map x m (no-power-up x (quiet-not-power-up x q))) (act-clean x q))
 
 -- ---- power-up
 
 module _ (prims : Primitives) (map : Map) where
-  woken-code : (v : Option ℕ) (life : LifeCycle) → judged (codeOf (wokenAnswer (wakingOf v life))) ≡ false
-  woken-code v life = woken-answer (λ (answer : Answer). judged (codeOf answer) ≡ false) v life (λ value. refl) (λ number. refl) (λ value. refl)
+  powered-code : (v : Option ℕ) (life : LifeCycle) → judgementCode (codeOf (poweredAnswer (endOf v life))) ≡ false
+  powered-code v life = powered-answer (λ (answer : Answer). judgementCode (codeOf answer) ≡ false) v life (λ value. refl) (λ number. refl) (λ value. refl)
 
   pub power-ups-refuse : (m : Machine)
       → (machineAfter prims map PowerUp m .lent .cells ≡ m .lent .cells)
-      × (judged (codeOf (answerTo prims map PowerUp m)) ≡ true → machineAfter prims map PowerUp m ≡ m)
-  unfolding unchanged obey powerUp waking
+      × (judgementCode (codeOf (answerTo prims map PowerUp m)) ≡ true → machineAfter prims map PowerUp m ≡ m)
+  unfolding unchanged obey powerUp powerUpEnd
   power-ups-refuse m =
       step-both prims map
-      (λ (s : Step). (s .result .machine .lent .cells ≡ m .lent .cells) × (judged (codeOf (s .result .answer)) ≡ true → s .result .machine ≡ m)) PowerUp m
+      (λ (s : Step). (s .result .machine .lent .cells ≡ m .lent .cells)
+      × (judgementCode (codeOf (s .result .answer)) ≡ true → s .result .machine ≡ m)) PowerUp m
       (λ answer e. (refl, λ j. refl))
-      (refl, λ j. absurd (true-not-false j (woken-code (verdictOf prims map (m .lent)) (lifeCycleIn map (m .lent)))))
+      (refl, λ j. absurd (true-not-false j (powered-code (verdictOf prims map (m .lent)) (lifeCycleIn map (m .lent)))))
 
 -- ---- transition
 
-judged-early : (code : ℕ) → judged code ≡ true → early code ≡ true
+judged-early : (code : ℕ) → judgementCode code ≡ true → early code ≡ true
 unfolding early
 judged-early code e = rw e
 
--- an answer after the stroke count was asked, with its turn
-abbrev Later : Answer → Turn → Type 0
-Later answer turn =
-    (early (codeOf answer) ≡ false) × (codeOf answer ≡ 0x20 → ⊥) × ((s : Session) → turned turn s ≡ inPhase (phaseAfter (codeOf answer)) s)
-
-data Transits : Act → Type 0 where
-  refuses : {answer : Answer} → early (codeOf answer) ≡ true → Transits (refuse answer)
-  used : Transits (say StrokesUsed halt)
-  spends : {rule : Rule} {at : ℕ} {words : List ℕ} {turn : Turn} {next : Act} → Gives Later (program rule at words turn next)
-      → Transits (program rule at words turn next)
+-- an answer after the stroke count was tested, with its effect
+abbrev Later : Answer → Effect → Type 0
+Later answer effect =
+    (early (codeOf answer) ≡ false) × (codeOf answer ≡ 0x20 → ⊥) × ((s : Session) → effectOn effect s ≡ inPhase (phaseAfter (codeOf answer)) s)
 
 -- what a transition came to
 abbrev Ended : Session → List ℕ → Performed → Type 0
 Ended s cells r =
-    (early (codeOf (r .answer)) ≡ true → (r .cells ≡ cells) × (r .turn ≡ stay))
-    × (early (codeOf (r .answer)) ≡ false → (turned (r .turn) s ≡ inPhase (phaseAfter (codeOf (r .answer))) s) × (codeOf (r .answer) ≡ 0x20 → r .cells ≡ cells))
+    (early (codeOf (r .answer)) ≡ true → (r .cells ≡ cells) × (r .effect ≡ noEffect))
+    × (early (codeOf (r .answer)) ≡ false
+    → (effectOn (r .effect) s ≡ inPhase (phaseAfter (codeOf (r .answer))) s) × (codeOf (r .answer) ≡ 0x20 → r .cells ≡ cells))
 
-transits-if : {b : Bool} {x y : Act} → (b ≡ true → Transits x) → (b ≡ false → Transits y) → Transits (if b then x else y)
-transits-if {b} {x} {y} f g = if-both Transits b x y f g
-
-perform-transits : {x : Act} → Transits x → (s : Session) (copy cells : List ℕ) → Ended s cells (perform x copy cells)
-unfolding perform early phaseAfter turned if_then_else_
-perform-transits (refuses e) s copy cells = ((λ j. (refl, refl)), λ j. absurd (true-not-false e j))
-perform-transits used s copy cells = ((λ j. absurd (true-not-false j refl)), λ j. (refl, λ u. refl))
-perform-transits (spends g) s copy cells =
-    ((λ j. absurd (true-not-false j (perform-gives g copy cells .0))), λ j. (perform-gives g copy cells .2 s, λ u. absurd (perform-gives g copy cells .1 u)))
-
--- an answer with the turn that goes with it, where neither is early nor 0x20
-later-by : (answer : Answer) (turn : Turn) → early (codeOf answer) ≡ false → eqb (codeOf answer) 0x20 ≡ false
-    → ((s : Session) → turned turn s ≡ inPhase (phaseAfter (codeOf answer)) s) → Later answer turn
-later-by answer turn e u f = (e, eqb-false _ _ u, f)
+-- an answer with its effect, where it is neither early nor 0x20
+later-by : (answer : Answer) (effect : Effect) → early (codeOf answer) ≡ false → eqb (codeOf answer) 0x20 ≡ false
+    → ((s : Session) → effectOn effect s ≡ inPhase (phaseAfter (codeOf answer)) s) → Later answer effect
+later-by answer effect e u f = (e, eqb-false _ _ u, f)
 
 later-ends : Ends Later
-unfolding early phaseAfter turned if_then_else_
+unfolding early phaseAfter effectOn if_then_else_
 later-ends = record {
-  not-blank = λ cell. later-by (NotBlank cell) die refl refl (λ s. refl);
-  moved = later-by (Done 0) halt refl refl (λ s. refl);
-  forbidden = later-by NotInTable halt refl refl (λ s. refl);
-  open? = later-by TokenNotLocked halt refl refl (λ s. refl);
-  differs = later-by TokenDiffers halt refl refl (λ s. refl);
+  not-blank = λ cell. later-by (NotBlank cell) toDead refl refl (λ s. refl);
+  moved = later-by (Done 0) toInert refl refl (λ s. refl);
+  forbidden = later-by NotInTable toInert refl refl (λ s. refl);
+  tokenUnlocked = later-by TokenNotLocked toInert refl refl (λ s. refl);
+  differs = later-by TokenDiffers toInert refl refl (λ s. refl);
 }
 
 module _ (prims : Primitives) (map : Map) (m : Machine) where
-  transition-transits : (target high low : ℕ) → Transits (readyAct prims map m (Transition target high low))
-  unfolding readyAct commandAct transitionAct early
-  transition-transits target high low =
-      transits-if (λ e. refuses refl) λ e. transits-if (λ e. refuses refl) λ e. transits-if (λ e. refuses refl)
-      λ e. transits-if (λ e. used) λ e. spends (programs (later-ends .not-blank) (entry-gives later-ends prims map m _ target _))
+  abbrev Ends-so : Act → Type 0
+  Ends-so act = Ended (m .session) (m .lent .cells) (perform act (m .lent))
+
+  refused-early : {target high low : ℕ} {answer : Answer} → Refuses (Transition target high low) answer → early (codeOf answer) ≡ true
+  unfolding early
+  refused-early (Refuses.denied q) = absurd q
+  refused-early Refuses.notReady = refl
+  refused-early Refuses.unknownTarget = refl
+
+  given-later : {act : Act} → Gives Later act → Ends-so act
+  given-later g =
+      let l = perform-gives g (m .lent) in
+      ((λ j. absurd (true-not-false j (l .0))), λ j. (l .2 (m .session), λ u. absurd (l .1 u)))
+
+  form-ends : {target high low : ℕ} {act : Act} → Form prims map m (Transition target high low) act → Ends-so act
+  unfolding perform early phaseAfter effectOn if_then_else_
+  form-ends (Form.refuses r) = ((λ j. (refl, refl)), λ j. absurd (true-not-false (refused-early r) j))
+  form-ends (Form.used t n) = ((λ j. absurd (true-not-false j refl)), λ j. (refl, λ u. refl))
+  form-ends (Form.spends {target} t n) =
+      given-later (programs (later-ends .not-blank) (entry-gives later-ends prims map m (tableEntry (m .session .state) target) target _))
 
   -- what a transition comes to, as a step
   abbrev Transited : Step → Type 0
@@ -169,7 +158,7 @@ module _ (prims : Primitives) (map : Map) (m : Machine) where
   unfolding unchanged obey act performed
   transitions-refuse target high low =
       let x = Transition target high low in
-      let r : Performed = perform (readyAct prims map m x) (m .lent .copy) (m .lent .cells) in
-      let ended : Ended (m .session) (m .lent .cells) r = perform-transits (transition-transits target high low) (m .session) (m .lent .copy) (m .lent .cells) in
+      let r : Performed = perform (readyAct prims map m x) (m .lent) in
+      let ended : Ended (m .session) (m .lent .cells) r = form-ends (act-form prims map m x) in
       step-both prims map Transited x m (λ answer e. ((λ j. refl), λ j. absurd (true-not-false (judged-early (codeOf answer) e) j)))
-      ((λ j. same-machine prims map m r (ended .0 j .0) (ended .0 j .1)), λ j. (refl, ended .1 j .0, ended .1 j .1))
+      ((λ j. same-machine m r (ended .0 j .0) (ended .0 j .1)), λ j. (refl, ended .1 j .0, ended .1 j .1))

@@ -19,14 +19,15 @@ use Rattle.partitions.proofs.Granules.{OneGranule, shared-word}
 use Rattle.model.specs.declared.Command.{Command}
 use Rattle.model.specs.Answers.{codeOf}
 use Rattle.model.specs.Lent.{Machine, Primitives}
-use Rattle.model.specs.Commands.{directRule, granule, readyAct}
+use Rattle.model.specs.Commands.{directRule, granule}
 use Rattle.model.specs.Step.{Step, unchanged, performed, act, powerUp, after, machineAfter, answerTo}
 use Rattle.model.specs.Claims.Burns.{Targets, writing, digesting}
-use Rattle.model.proofs.Acts.{Once, Burnt, left, burnt, perform-once}
-use Rattle.model.proofs.Targets.{rule-side, Struck, write-once, digest-once, write-struck, digest-struck}
-use Rattle.model.proofs.Frame.{by-aim, aimless-granule}
+use Rattle.model.specs.Acts.{Performed}
+use Rattle.model.proofs.Targets.{rule-side, write-burnt, Target, Burnt, digest-burnt, write-target, digest-target, left, burnt}
+use Rattle.model.proofs.Frame.{programs-none-granule, programs-nowhere}
 use Rattle.model.proofs.Steps.{after-append, outcome, step-all}
 use Rattle.model.proofs.NamedWords.{target-tells}
+use Rattle.model.proofs.Classes.{by-writing}
 use Rattle.words.specs.declared.Programmed.the-variants as programmed
 
 -- a granule has one rule
@@ -43,45 +44,32 @@ module _ (prims : Primitives) (map : Map) (F : fit map ≡ true) where
     cells = m .lent .cells
 
     -- a word stays that is not zero, where what is programmed is programmed by the new rule
-    blank-stays : (x : Command) {W : Rule → ℕ → List ℕ → ℕ → Type 0} → Once W (readyAct prims map m x)
-        → ((rule : Rule) (at : ℕ) (words : List ℕ) (value : ℕ) → W rule at words value → rule ≡ BlankOnly)
-        → (j : ℕ) → (getD cells j 0 ≡ 0 → ⊥) → getD (outcome prims map x m .cells) j 0 ≡ getD cells j 0
-    blank-stays x {W} once by-rule j h = go (perform-once once (m .lent .copy) cells)
-      where
-        go : Burnt W cells (outcome prims map x m) → getD (outcome prims map x m .cells) j 0 ≡ getD cells j 0
-        go (left e) = rw e
-        go (burnt w k f _) = rw f (program-elsewhere _ cells _ _ j (λ lo hi. h (done-blank _ cells _ j (rw (by-rule _ _ _ _ w) at k) lo hi)))
+    blank-stays : {W : Type 0} {rule : Rule} {at value : ℕ} {words : List ℕ} {r : Performed} → Burnt W cells rule at words value r → rule ≡ BlankOnly
+        → (j : ℕ) → (getD cells j 0 ≡ 0 → ⊥) → getD (r .cells) j 0 ≡ getD cells j 0
+    blank-stays (left e) new j h = rw e
+    blank-stays (burnt w k f _) new j h = rw f (program-elsewhere _ cells _ _ j (λ lo hi. h (done-blank _ cells _ j (rw new at k) lo hi)))
 
     word-stays : {x : Command} {at : ℕ} {words : List ℕ} → Targets prims map m x BlankOnly at words
         → (j : ℕ) → (getD cells j 0 ≡ 0 → ⊥) → getD (outcome prims map x m .cells) j 0 ≡ getD cells j 0
-    word-stays (writing {a} {value} e) = blank-stays _ (write-once prims map m a value) (λ rule at words value w. w .by-rule ∙ e)
-    word-stays (digesting {a}) = blank-stays _ (digest-once prims map m a) (λ rule at words value w. w .by-rule)
-
-  module _ (m : Machine) (x : Command) {at n : ℕ} (once : Once (Struck map at n) (readyAct prims map m x)) where
-    abbrev Result : Type 0
-    Result = Burnt (Struck map at n) (cells m) (outcome prims map x m)
-
-    result : Result
-    result = perform-once once (m .lent .copy) (cells m)
+    word-stays (writing {a} {value} e) = blank-stays (write-burnt prims map m a value) e
+    word-stays (digesting {a}) = blank-stays (digest-burnt prims map m a) refl
 
     -- and so does each word of a granule that is not blank: were one of them programmed, the granule would be the target
-    granule-stays : (a : ℕ) → a < limit map → directRule (partitionAt map a) a ≡ BlankOnly → let p = partitionAt map a in
-        (granule p (cells m) a ≡ 0 → ⊥) → (j : ℕ) → firstWord p a ≤ j → j < firstWord p a + wordCount p a
-        → getD (outcome prims map x m .cells) j 0 ≡ getD (cells m) j 0
-    unfolding granule partitionAt
-    granule-stays a below new h j lo hi = go result
-      where
-        blank : {rule : Rule} {from : ℕ} {ws : List ℕ} {value : ℕ} → Struck map at n rule from ws value
-            → programAnswer rule (cells m) from ws ≡ programmed.Done → from ≤ j → j < from + length ws → granule (partitionAt map a) (cells m) a ≡ 0
-        blank w k lo′ hi′ =
-            let one = shared-word map F below (w .below) lo hi (rw (← w .first, ← w .place) lo′) (rw (← w .first, ← w .count, ← w .place, ← w .size) hi′) in
-            let same = w .by-rule ∙ sym (one-rule map one) ∙ new in
-            blank-part (cells m) _ _ (λ i l u. done-blank _ (cells m) _ i (rw same at k) (omega (arith, one .first, w .first, w .place))
-            (omega (arith, one .first, one .count, w .first, w .count, w .place, w .size)))
+    module _ (a : ℕ) (below : a < limit map) (new : directRule (partitionAt map a) a ≡ BlankOnly) (h : granule (partitionAt map a) cells a ≡ 0 → ⊥)
+        (j : ℕ) (lo : firstWord (partitionAt map a) a ≤ j) (hi : j < firstWord (partitionAt map a) a + wordCount (partitionAt map a) a) where
+      blank : {rule : Rule} {at : ℕ} (words : List ℕ) → Target map rule at (length words) → programAnswer rule cells at words ≡ programmed.Done
+          → at ≤ j → j < at + length words → granule (partitionAt map a) cells a ≡ 0
+      unfolding granule
+      blank words t k lo′ hi′ =
+          let one = shared-word map F below (t .below) lo hi (rw (← t .first) lo′) (rw (← t .first, ← t .count) hi′) in
+          let same = t .by-rule ∙ sym (one-rule map one) ∙ new in
+          blank-part cells _ _ (λ i l u. done-blank _ cells _ i (rw same at k) (omega (arith, one .first, t .first))
+          (omega (arith, one .first, one .count, t .first, t .count)))
 
-        go : Result → getD (outcome prims map x m .cells) j 0 ≡ getD (cells m) j 0
-        go (left e) = rw e
-        go (burnt w k f _) = rw f (program-elsewhere _ (cells m) _ _ j (λ lo′ hi′. h (blank w k lo′ hi′)))
+      granule-stays : {W : Type 0} {rule : Rule} {at value : ℕ} {words : List ℕ} {r : Performed} → (W → Target map rule at (length words))
+          → Burnt W cells rule at words value r → getD (r .cells) j 0 ≡ getD cells j 0
+      granule-stays target (left e) = rw e
+      granule-stays target (burnt w k f _) = rw f (program-elsewhere _ cells _ _ j (λ lo′ hi′. h (blank _ (target w) k lo′ hi′)))
 
   -- ---- in a list
 
@@ -101,7 +89,8 @@ module _ (prims : Primitives) (map : Map) (F : fit map ≡ true) where
       step-all prims map (λ (s : Step). getD (s .result .machine .lent .cells) j 0 ≡ getD (m₁ .lent .cells) j 0) x m₁ (λ answer e. refl) refl
       (word-stays m₁ target j h)
 
-  module _ (a : ℕ) (below : a < limit map) (direct : rightsOf (partitionAt map a .kind) .direct ≡ true) (new : directRule (partitionAt map a) a ≡ BlankOnly) where
+  module _ (a : ℕ) (below : a < limit map) (direct : rightsOf (partitionAt map a .kind) .direct ≡ true)
+      (new : directRule (partitionAt map a) a ≡ BlankOnly) where
     abbrev first : ℕ
     first = firstWord (partitionAt map a) a
 
@@ -114,15 +103,17 @@ module _ (prims : Primitives) (map : Map) (F : fit map ≡ true) where
     word-held : (m : Machine) → Held (m .lent .cells) → (x : Command) (j : ℕ) → first ≤ j → j < first + count
         → getD (outcome prims map x m .cells) j 0 ≡ getD (m .lent .cells) j 0
     word-held m h =
-        by-aim map (λ (x : Command). (j : ℕ) → first ≤ j → j < first + count → getD (outcome prims map x m .cells) j 0 ≡ getD (m .lent .cells) j 0)
-        (λ b value. granule-stays m _ (write-struck prims map F m b value) a below new h) (λ b. granule-stays m _ (digest-struck prims map F m b) a below new h)
-        (λ x n j lo hi. aimless-granule prims map F m x below direct j lo hi (n j))
+        by-writing (λ (x : Command). (j : ℕ) → first ≤ j → j < first + count → getD (outcome prims map x m .cells) j 0 ≡ getD (m .lent .cells) j 0)
+        (λ b value j lo hi. granule-stays m a below new h j lo hi (write-target prims map F m b value) (write-burnt prims map m b value))
+        (λ b j lo hi. granule-stays m a below new h j lo hi (digest-target prims map F m b) (digest-burnt prims map m b))
+        (λ x n j lo hi. programs-none-granule prims map F m x below direct j lo hi (programs-nowhere map x n j))
 
     step-held : (x : Command) (m : Machine) → Held (m .lent .cells)
         → partAt (machineAfter prims map x m .lent .cells) first count ≡ partAt (m .lent .cells) first count
     unfolding act performed powerUp unchanged
     step-held x m h =
-        step-all prims map (λ (s : Step). partAt (s .result .machine .lent .cells) first count ≡ partAt (m .lent .cells) first count) x m (λ answer e. refl) refl
+        step-all prims map (λ (s : Step). partAt (s .result .machine .lent .cells) first count ≡ partAt (m .lent .cells) first count) x m
+        (λ answer e. refl) refl
         (part-same _ (m .lent .cells) first count (word-held m h x))
 
     still : (c d : List ℕ) → partAt d first count ≡ partAt c first count → Held c → Held d

@@ -1,5 +1,5 @@
--- What a write stores, and by which rule it is refused. The idea: the kind decides whether data are scrambled, and the granule how many words there are; a rule refuses a word
--- that is not zero, or one that would lose a bit.
+-- What a write stores, and by which rule it is refused. The idea: the kind decides whether data are scrambled, and the granule how many words there are; a rule
+-- refuses a word that is not zero, or one that would lose a bit.
 use mathlib.Core.Path.{_≡_, ap, subst, _∙_}
 use mathlib.Core.Bool.{true, false, not, _&&_}
 use mathlib.Core.List.{List}
@@ -35,21 +35,25 @@ use Rattle.partitions.specs.declared.Kind.the-variants as kind
 -- ---- the words
 
 module _ (prims : Primitives) (map : Map) (F : fit map ≡ true) where
-  stored-as : (constants : List ℕ) (a value count : ℕ) (x : ℕ) → wordCount (partitionAt map a) a ≡ count → scrambled prims constants (partitionAt map a) value ≡ x
+  stored-as : (constants : List ℕ) (a value count : ℕ) (x : ℕ) → wordCount (partitionAt map a) a ≡ count
+      → scrambled prims constants (partitionAt map a) value ≡ x
       → wordsOf count x ≡ storedWords prims map constants a value
   stored-as constants a value count x e f = rw (e, f)
 
-  pub write-stores : (m : Machine) (a value : ℕ) → (WriteDenied prims map m a → ⊥) → Stores prims map (m .lent .constants) a value (storedWords prims map (m .lent .constants) a value)
+  pub write-stores : (m : Machine) (a value : ℕ) → (WriteDenied prims map m a → ⊥)
+      → Stores prims map (m .lent .constants) a value (storedWords prims map (m .lent .constants) a value)
   unfolding inDigest
-  write-stores m a value open? =
+  write-stores m a value tokenUnlocked =
       by-cases (inDigest p a)
-      (λ d. (let soft = not-passed (rightsOf (p .kind) .hardware) (λ h. open? (inHardwareDigest (hardware-kind _ h) (leb-true _ _ d))) in
+      (λ d. (let soft = not-passed (rightsOf (p .kind) .hardware) (λ h. tokenUnlocked (inHardwareDigest (hardware-kind _ h) (leb-true _ _ d))) in
       to (stored-as k a value 4 value (size-words p a 8 (granule-digest p a d) .1) (as-given (soft-plain (p .kind) soft)))
       (Stores.digest (leb-true _ _ d) (lockable-kind (p .kind) (soft-lockable (p .kind) direct soft)))))
       (λ d. by-cases (rightsOf (p .kind) .scrambled)
       (λ s. (let key = scrambled-keyed (p .kind) s in
-      to (stored-as k a value 4 (prims .encrypt (eightFrom k (key .first)) value) (size-words p a 8 (granule-scrambled fits s a) .1) (as-block s key)) (Stores.secret (leb-false _ _ d) (key .at))))
-      (λ s. to (stored-as k a value 2 value (size-words p a 4 (granule-plain fits s a d) .1) (as-given s)) (Stores.plain (leb-false _ _ d) (plain-kind (p .kind) direct s))))
+      to (stored-as k a value 4 (prims .encrypt (eightFrom k (key .first)) value) (size-words p a 8 (granule-scrambled fits s a) .1) (as-block s key))
+      (Stores.secret (leb-false _ _ d) (key .at))))
+      (λ s. to (stored-as k a value 2 value (size-words p a 4 (granule-plain fits s a d) .1) (as-given s))
+      (Stores.plain (leb-false _ _ d) (plain-kind (p .kind) direct s))))
     where
       k : List ℕ
       k = m .lent .constants
@@ -58,13 +62,13 @@ module _ (prims : Primitives) (map : Map) (F : fit map ≡ true) where
       p = partitionAt map a
 
       low : a < limit map
-      low = leb-false _ _ (not-passed (leb (limit map) a) (λ l. open? (past (leb-true _ _ l))))
+      low = leb-false _ _ (not-passed (leb (limit map) a) (λ l. tokenUnlocked (past (leb-true _ _ l))))
 
       fits : FitPartition (partitionAt map a)
       fits = inside map F low .fits
 
       direct : rightsOf (partitionAt map a .kind) .direct ≡ true
-      direct = by-cases (rightsOf (partitionAt map a .kind) .direct) (λ t. t) (λ t. absurd (open? (inLifeCycle (life-cycle-only _ t))))
+      direct = by-cases (rightsOf (partitionAt map a .kind) .direct) (λ t. t) (λ t. absurd (tokenUnlocked (inLifeCycle (life-cycle-only _ t))))
 
       to : {xs ys : List ℕ} → xs ≡ ys → Stores prims map (m .lent .constants) a value xs → Stores prims map (m .lent .constants) a value ys
       to e h = subst (Stores prims map (m .lent .constants) a value) e h
@@ -91,7 +95,12 @@ bit-refuses s v = (found, λ c. some-at 16 _ (c .place) (c .within) (and-both _ 
     found : anyBelow 16 (λ i. eqb (bit s i) 1 && eqb (bit v i) 0) ≡ true → Clears s v
     found e =
         let h = at-some 16 (λ i. eqb (bit s i) 1 && eqb (bit v i) 0) e in
-        record { place = h .at; within = h .below; one = eqb-true _ 1 (and-left (eqb (bit s (h .at)) 1) _ (h .holds)); zero = eqb-true _ 0 (and-right (eqb (bit s (h .at)) 1) _ (h .holds)) }
+        record {
+          place = h .at;
+          within = h .below;
+          one = eqb-true _ 1 (and-left (eqb (bit s (h .at)) 1) _ (h .holds));
+          zero = eqb-true _ 0 (and-right (eqb (bit s (h .at)) 1) _ (h .holds));
+        }
 
 -- the lowest word that refuses by the new rule
 pub lowest-blank : (cells words : List ℕ) (at i : ℕ) → Lowest BlankOnly cells at words i ↔ LowestBurnt cells at (length words) i
@@ -117,7 +126,12 @@ module _ (map : Map) (cells words : List ℕ) (at a i : ℕ) where
   pub cleared-lowest : partitionAt map a .kind ≡ kind.AuthState → a < partitionAt map a .digest
       → Lowest (directRule (partitionAt map a) a) cells at words i ↔ LowestCleared cells at words i
   cleared-lowest e d = rw (auth-state-old (partitionAt map a) a e d) (
-    (λ l. record { from = l .from; to = l .to; clears = bit-refuses _ _ .0 (l .refusing); lower = λ j f u c. true-not-false (bit-refuses _ _ .1 c) (l .lower j f u) }),
+    (λ l. record {
+      from = l .from;
+      to = l .to;
+      clears = bit-refuses _ _ .0 (l .refusing);
+      lower = λ j f u c. true-not-false (bit-refuses _ _ .1 c) (l .lower j f u);
+    }),
     λ b. record {
       from = b .from;
       to = b .to;

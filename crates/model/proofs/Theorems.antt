@@ -22,10 +22,10 @@ use Rattle.model.specs.Claims.FailedPowerUps.{FailedPowerUps}
 use Rattle.model.specs.Claims.ReadLocks.{ReadLocks}
 use Rattle.model.specs.Claims.Sensing.{Sensing}
 use Rattle.model.specs.Claims.All.{Claims}
-use Rattle.model.proofs.Steps.{bits-stay}
+use Rattle.model.proofs.Steps.{bits-stay, step-constants}
 use Rattle.model.proofs.Refusals.{commands-refuse, power-ups-refuse, transitions-refuse}
 use Rattle.model.proofs.LeftOut.{left-out}
-use Rattle.model.proofs.Deaths.{deaths-told}
+use Rattle.model.proofs.Deaths.{deaths-named}
 use Rattle.model.proofs.Locks.{locked-since}
 use Rattle.model.proofs.Places.{places}
 use Rattle.model.proofs.Order.{order}
@@ -38,21 +38,23 @@ use Rattle.model.proofs.OldRule.{old-rule}
 use Rattle.model.proofs.StoredWords.{write-stores, blank-lowest, cleared-lowest}
 use Rattle.model.proofs.Chips.{two-chips}
 use Rattle.model.proofs.Digests.{whole-digests}
-use Rattle.model.proofs.Courses.{never-four, courses-run, counts}
+use Rattle.model.proofs.LifeCycleProgress.{never-four, progress-run, counts}
 use Rattle.model.proofs.TransitionCells.{step-told}
 use Rattle.model.proofs.TransitionCodes.{fair-exact, tokens-compared, record-sevens, done-value}
-use Rattle.model.proofs.Comparisons.{step-compared}
+use Rattle.model.proofs.Classes.{classes}
+use Rattle.model.proofs.Comparisons.{step-compared, no-comparison}
 use Rattle.model.proofs.TransitionLeaves.{leaves, reached-fair}
 use Rattle.model.proofs.LifeCycleTables.{life-cycles}
 use Rattle.model.proofs.Tokens.{tokens}
 use Rattle.model.proofs.Since.{since-held, since-reached}
 use Rattle.model.proofs.PowerUps.{alone, again, cleared, failed}
 use Rattle.model.proofs.FrontReads.{fronts, device-final}
-use Rattle.model.proofs.Quiet.{after-unsensed}
+use Rattle.model.proofs.Quiet.{after-unsensed, step-recorded}
 use Rattle.model.proofs.ReadLocks.{lock-exact, locks-last, lock-others, lock-says-nothing}
 use Rattle.model.proofs.DigestCodes.{digest-codes}
 use Rattle.model.proofs.DigestChecks.{digest-exact, digest-done, digest-only, digest-stored}
-use Rattle.model.proofs.PowerUpCodes.{power-up-sixes, power-up-invalid, power-up-scrap, power-up-done, power-up-verdicts, no-verdict, power-up-sensed, power-up-copy}
+use Rattle.model.proofs.PowerUpCodes.{power-up-sixes, power-up-invalid, power-up-scrap, power-up-done, power-up-verdicts, no-verdict, power-up-sensed}
+use Rattle.model.proofs.PowerUpCodes.{power-up-copy}
 use Rattle.model.proofs.FailedDigests.{sixes, digest-passes}
 use Rattle.model.proofs.FailedLifeCycles.{sevens}
 use Rattle.model.proofs.Everything.{everything}
@@ -62,7 +64,7 @@ refusals prims map = record {
   commands = commands-refuse prims map;
   powerUps = power-ups-refuse prims map;
   transitions = transitions-refuse prims map;
-  deaths = λ m x reason. deaths-told prims map m reason x;
+  deaths = λ m x reason. deaths-named prims map m reason x;
   leftOut = left-out prims map;
 }
 
@@ -72,7 +74,7 @@ demand3 prims C map F = record {
   locks = λ m r n D l₁ l₂ h. locked-since prims map F n D m r l₁ l₂ h .1;
   writes = λ m r l₀ l₁ ready a value v al. (
     write-taken prims C map F m r l₀ l₁ ready a value v al,
-    λ l₂ lasts spared. reads-back prims C map F m r l₀ l₁ ready a value v al l₂ spared lasts,
+    λ l₂ lasts unwritten. reads-back prims C map F m r l₀ l₁ ready a value v al l₂ unwritten lasts,
   );
   chips = two-chips prims map F;
   strokes = never-four prims map F;
@@ -105,11 +107,12 @@ transitions prims map F = record {
   exactly = fair-exact prims map;
   records = λ m r e target high low. record-sevens prims map m target high low r e;
   values = done-value prims map;
-  comparisons = λ m target high low. (let t = step-compared prims map m target high low in (t .differs, t .free, t .same, t .other));
+  comparisons = λ m target high low. (let t = step-compared prims map m target high low in (t .differs, t .free, t .same, t .refused, t .other));
+  noComparison = no-comparison prims map;
   tokens = tokens-compared prims map;
   fair = λ m r l e. (reached-fair prims map F (after prims map (PowerUp ∷ l) m) (since-reached prims map F m r l) e, never-four prims map F m r l);
   leaves = λ m r l. leaves prims map F (after prims map (PowerUp ∷ l) m) (since-reached prims map F m r l);
-  courses = courses-run prims map F;
+  progress = progress-run prims map F;
   counts = counts;
 }
 
@@ -118,8 +121,8 @@ digests prims G map F = record {
   exactly = λ m r a. digest-exact prims map m a F r;
   codes = λ m r e a. digest-codes prims map F m a r e;
   done = λ m r a z. digest-done prims map m a F r (digest-only prims map m a z);
-  stored = λ m r w a z. digest-stored prims map m a F r (digest-only prims map m a z) G w;
-  checks = λ m r w a z. digest-passes prims map F G m r w a (digest-only prims map m a z);
+  stored = λ m r a z. digest-stored prims map m a F r (digest-only prims map m a z) G;
+  checks = λ m r a z. digest-passes prims map F G m r a (digest-only prims map m a z);
   whole = λ m r n D l. whole-digests prims map F n D l m r;
 }
 
@@ -162,6 +165,8 @@ sensing prims map F = record {
   fronts = fronts prims map F;
   device = λ m r n D l₁ l₂ z. device-final prims map F m r n D l₁ z l₂;
   unsensed = after-unsensed prims map;
+  recorded = λ m x q n. step-recorded prims map x q n m;
+  constants = λ m x. step-constants prims map x m;
   cleared = cleared prims map;
   failed = failed prims map;
   alone = alone prims map;
@@ -170,6 +175,7 @@ sensing prims map F = record {
 
 pub claims : (prims : Primitives) → Cipher prims → DigestFits prims → (map : Map) → fit map ≡ true → Claims prims map
 claims prims C G map F = record {
+  classes = classes;
   demand3 = demand3 prims C map F;
   refusals = refusals prims map;
   places = places map F;

@@ -1,7 +1,8 @@
--- Tokens, from the write of a hash to its comparison. The idea: the copy holds each block of the secret unscrambled, and unscrambling undoes the scrambling of the write; so the eight words are the two halves.
+-- Tokens, from the write of a hash to its comparison. The idea: the copy holds each block of the secret unscrambled, and unscrambling undoes the scrambling of
+-- the write; so the eight words are the two halves.
 use mathlib.Core.Path.{_≡_, refl, sym, ap, ap₂, subst, _∙_}
 use mathlib.Core.Bool.{Bool, true}
-use mathlib.Core.List.{List, [], _∷_, _++_}
+use mathlib.Core.List.{List, _∷_, _++_}
 use mathlib.Core.Logic.{_↔_}
 use Prim.Native.Nat.{ℕ, _+_, _*_, _-_, _/_, _%_, _^_, _≤_, _<_}
 use native.Mathlib.Omega.{arith}
@@ -20,7 +21,7 @@ use Rattle.partitions.proofs.Secrets.{secret0, secret2}
 use Rattle.life_cycle.specs.declared.Token.{Token}
 use Rattle.model.specs.declared.Command.the-variants.{PowerUp}
 use Rattle.model.specs.Session.{sensedAt}
-use Rattle.model.specs.Lent.{Machine, Primitives}
+use Rattle.model.specs.Lent.{Machine, Primitives, withCells}
 use Rattle.model.specs.Commands.{storedDigest}
 use Rattle.model.specs.PowerUp.{copyWord}
 use Rattle.model.specs.Step.{after}
@@ -52,27 +53,30 @@ module _ (prims : Primitives) (C : Cipher prims) (map : Map) (F : fit map ≡ tr
         fits = part-number-lt {c = m .lent .constants} (record { small = s .right .words }) first 8
 
         block : prims .decrypt K (numberOf (partAt c₀ at 4)) ≡ value
-        block = ap (λ (ws : List ℕ). prims .decrypt K (numberOf ws)) e ∙ ap (prims .decrypt K) (number-block (prims .encrypt K value) (C .fits K value fits v)) ∙ C .back K value fits v
+        block =
+            ap (λ (ws : List ℕ). prims .decrypt K (numberOf ws)) e ∙ ap (prims .decrypt K) (number-block (prims .encrypt K value) (C .fits K value fits v))
+            ∙ C .back K value fits v
 
         word : (i : ℕ) → i < 4 → getD (m .lent .copy) (at + i) 0 ≡ getD (wordsOf 4 value) i 0
         word i l =
             let f = partition-fit map F known in
             let low : at + i < limit map / 2 = omega (arith, f .digest-last, end-within map F known, f .end-aligned) in
-            let there = partition-at map (2 * (at + i)) (only map F known (omega (arith, f .start-aligned)) (omega (arith, f .digest-last, f .digest-aligned))) in
+            let there = partition-at map (2 * (at + i))
+            (only map F known (omega (arith, f .start-aligned)) (omega (arith, f .digest-last, f .digest-aligned))) in
             let first-word : (at + i) / 4 * 4 ≡ at = omega arith in
             let place : (at + i) % 4 ≡ i = omega arith in
             ap (λ (ws : List ℕ). getD ws (at + i) 0) (s .copy) ∙ listed-at (copyWord prims map (m .lent .constants) c₀) 0 (limit map / 2) (at + i) low
-            ∙ secret-copy prims map F (record { cells = c₀; copy = []; constants = m .lent .constants }) (at + i) low {first = first} (rw there key) (rw there (omega (arith, f .digest-aligned)))
+            ∙ secret-copy prims map F (withCells c₀ (m .lent)) (at + i) low {first = first} (rw there key) (rw there (omega (arith, f .digest-aligned)))
             ∙ rw (first-word, place, block) refl
 
         words : partAt (m .lent .copy) at 4 ≡ wordsOf 4 value
         words = part-at (m .lent .copy) (wordsOf 4 value) at 4 (length-words 4 value) word
 
   -- sixteen bytes of a secret's data
-  data-room : {first : ℕ} (k : Kind) (offset size : ℕ) → numberOfKind map k < length map → partition map (numberOfKind map k) .kind ≡ k
+  data-space : {first : ℕ} (k : Kind) (offset size : ℕ) → numberOfKind map k < length map → partition map (numberOfKind map k) .kind ≡ k
       → partition map (numberOfKind map k) .start + size ≡ partition map (numberOfKind map k) .end → KeyAt k first → offset + offset + 24 ≤ size
       → partition map (numberOfKind map k) .start / 2 + offset + 8 ≤ partition map (numberOfKind map k) .digest / 2
-  data-room k offset size known isKind sized key small =
+  data-space k offset size known isKind sized key small =
       let f = partition-fit map F known in
       omega (arith, sized, f .tail (rw isKind (scrambled-direct k (keyed-scrambled key))), f .start-aligned, f .digest-aligned)
 
@@ -109,9 +113,9 @@ module _ (prims : Primitives) (C : Cipher prims) (map : Map) (F : fit map ≡ tr
   token-place : {token : Token} {k : Kind} {first offset : ℕ} → TokenAt token k first offset
       → let p = partition map (numberOfKind map k) in
       (p .kind ≡ k) × (p .start / 2 + offset + 8 ≤ p .digest / 2)
-  token-place testUnlock = let q = secret0 map F in (q .isKind, data-room kind.Secret0 0 40 (q .known) (q .isKind) (q .sized) KeyAt.secret0 (omega arith))
-  token-place testExit = let q = secret0 map F in (q .isKind, data-room kind.Secret0 8 40 (q .known) (q .isKind) (q .sized) KeyAt.secret0 (omega arith))
-  token-place rma = let q = secret2 map F in (q .isKind, data-room kind.Secret2 0 88 (q .known) (q .isKind) (q .sized) KeyAt.secret2 (omega arith))
+  token-place testUnlock = let q = secret0 map F in (q .isKind, data-space kind.Secret0 0 40 (q .known) (q .isKind) (q .sized) KeyAt.secret0 (omega arith))
+  token-place testExit = let q = secret0 map F in (q .isKind, data-space kind.Secret0 8 40 (q .known) (q .isKind) (q .sized) KeyAt.secret0 (omega arith))
+  token-place rma = let q = secret2 map F in (q .isKind, data-space kind.Secret2 0 88 (q .known) (q .isKind) (q .sized) KeyAt.secret2 (omega arith))
 
   token-compared : (c₀ : List ℕ) (m : Machine) → Since prims map c₀ m → (token : Token) (k : Kind) (first offset low high : ℕ) → TokenAt token k first offset
       → low < 2 ^ 64 → high < 2 ^ 64 → HashStored prims map (m .lent .constants) c₀ k first offset low high

@@ -10,7 +10,13 @@ use Rattle.model.specs.Cases.{chip}
 
 -- with a digest of one's choice
 abbrev pub toyWith : (List ℕ → ℕ) → Primitives
-toyWith digest = record { encrypt = λ key block. bitXor block 1; decrypt = λ key block. bitXor block 1; digest = λ start final words. digest words; hash = λ token. bitXor token 1 }
+toyWith digest =
+    record {
+      encrypt = λ key block. bitXor block 1;
+      decrypt = λ key block. bitXor block 1;
+      digest = λ start final words. digest words;
+      hash = λ token. bitXor token 1;
+    }
 
 abbrev pub toy : Primitives
 toy = toyWith (λ words. 1)

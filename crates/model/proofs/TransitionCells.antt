@@ -1,4 +1,5 @@
--- Which cells a transition leaves, by its code. The idea: each end has its cells; counter words and state words adjoin, so that a move programs one run of words.
+-- Which cells a transition leaves, by its code. The idea: each end has its cells; counter words and state words adjoin, so that a move programs one run of
+-- words.
 use mathlib.Core.Path.{_≡_, refl, sym, ap, _∙_}
 use mathlib.Core.Bool.{true}
 use mathlib.Core.List.{List, [], _∷_, _++_}
@@ -25,7 +26,8 @@ use Rattle.model.specs.Claims.Refusals.{early}
 use Rattle.model.specs.Claims.Transitions.{strokeOnly, strokeWords, moveWords, Stopped, counter, state}
 use Rattle.model.specs.Claims.Terms.{Put}
 use Rattle.model.proofs.Steps.{lengths-of}
-use Rattle.model.proofs.TransitionEnds.{Ending, unknownTarget, used, counterStops, notInTable, tokenNotLocked, tokenDiffers, stateStops, moved, stroke, stroke-cells, move, Taken, early-no-stroke, step-ends}
+use Rattle.model.proofs.TransitionEnds.{Ending, unknownTarget, used, counterStops, notInTable, tokenNotLocked, tokenDiffers, stateStops, moved, stroke}
+use Rattle.model.proofs.TransitionEnds.{stroke-cells, move, Taken, early-no-stroke, step-ends}
 use Rattle.words.specs.declared.Programmed.the-variants as programmed
 use Rattle.partitions.specs.declared.Kind.the-variants as kind
 
@@ -56,16 +58,16 @@ both-taken rule xs ys c at e f =
           ∙ sets-append xs ys c at ∙ sym (stored-done rule c (xs ++ ys) at g),
     )
 
--- ---- what the code tells of the cells
+-- ---- what the code says of the cells
 
 module _ (prims : Primitives) (map : Map) (m : Machine) (target given : ℕ) where
-  pub record CellsTold (answer : Answer) (cells : List ℕ) : Type 0 where
+  pub record CellsByCode (answer : Answer) (cells : List ℕ) : Type 0 where
     pub used : codeOf answer ≡ 0x20 → cells ≡ (m .lent .cells)
     pub spent : strokeOnly (codeOf answer) ≡ true → Put lifeCycleRule (counterAt map) (strokeWords prims map m) (m .lent .cells) cells
     pub moved : codeOf answer ≡ 0x00 → Put lifeCycleRule (counterAt map) (moveWords prims map m target) (m .lent .cells) cells
     pub stopped : codeOf answer ≡ 0x04 → Stopped prims map m target (valueOf answer) cells
 
-  early-told : (answer : Answer) (cells : List ℕ) → early (codeOf answer) ≡ true → CellsTold answer cells
+  early-told : (answer : Answer) (cells : List ℕ) → early (codeOf answer) ≡ true → CellsByCode answer cells
   unfolding early strokeOnly
   early-told answer cells e = record {
     used = λ q. absurd (true-not-false e (rw q));
@@ -75,9 +77,9 @@ module _ (prims : Primitives) (map : Map) (m : Machine) (target given : ℕ) whe
   }
 
 module _ (prims : Primitives) (map : Map) (F : fit map ≡ true) (m : Machine) (lengths : rightLengths map (m .lent) ≡ true) where
-  life-room : counterAt map + 44 ≤ length (m .lent .cells)
+  life-space : counterAt map + 44 ≤ length (m .lent .cells)
   unfolding counterAt
-  life-room =
+  life-space =
       let n = numberOfKind map kind.LifeCycle in
       let known : n < length map = omega (arith, life-cycle-last map F) in
       let p = life-cycle-partition map F in
@@ -85,9 +87,10 @@ module _ (prims : Primitives) (map : Map) (F : fit map ≡ true) (m : Machine) (
       omega (arith, lengths-of prims map (m .lent) lengths .0, p .words, p .last)
 
   module _ (target given : ℕ) where
-    put-stroke : Taken prims map m target given → Put lifeCycleRule (counterAt map) (stroke prims map m target given) (m .lent .cells) (stroke-cells prims map m target given)
+    put-stroke : Taken prims map m target given
+        → Put lifeCycleRule (counterAt map) (stroke prims map m target given) (m .lent .cells) (stroke-cells prims map m target given)
     put-stroke t = put-words lifeCycleRule (counterAt map) (stroke prims map m target given) (m .lent .cells)
-        (omega (arith, life-room, counter-length (m .lent .constants) (suc (m .session .count)))) (t .1)
+        (omega (arith, life-space, counter-length (m .lent .constants) (suc (m .session .count)))) (t .1)
 
     put-move : Taken prims map m target given
         → programAnswer lifeCycleRule (stroke-cells prims map m target given) (stateAt map) (move prims map m target given) ≡ programmed.Done
@@ -100,10 +103,11 @@ module _ (prims : Primitives) (map : Map) (F : fit map ≡ true) (m : Machine) (
         let short : length a ≡ 24 = counter-length (m .lent .constants) (suc (m .session .count)) in
         let at : counterAt map + 24 ≡ counterAt map + length a = omega arith in
         let g = both-taken lifeCycleRule a b (m .lent .cells) (counterAt map) (t .1) (rw at at e) in
-        let room : counterAt map + length (a ++ b) ≤ length (m .lent .cells) = rw length-append (omega (arith, life-room, short, state-length (m .lent .constants) target)) in
-        rw (at, g .1) (put-words lifeCycleRule (counterAt map) (a ++ b) (m .lent .cells) room (g .0))
+        let space : counterAt map + length (a ++ b) ≤ length (m .lent .cells) = rw length-append
+        (omega (arith, life-space, short, state-length (m .lent .constants) target)) in
+        rw (at, g .1) (put-words lifeCycleRule (counterAt map) (a ++ b) (m .lent .cells) space (g .0))
 
-    told : {answer : Answer} {cells : List ℕ} → Ending prims map m target given answer cells → CellsTold prims map m target given answer cells
+    told : {answer : Answer} {cells : List ℕ} → Ending prims map m target given answer cells → CellsByCode prims map m target given answer cells
     unfolding strokeOnly
     told (unknownTarget h e) = rw e (record {
       used = λ q. absurd (omega arith);
@@ -155,5 +159,8 @@ module _ (prims : Primitives) (map : Map) (F : fit map ≡ true) (m : Machine) (
     })
 
 module _ (prims : Primitives) (map : Map) (m : Machine) (target high low : ℕ) where
-  pub step-told : fit map ≡ true → CellsTold prims map m target (high * 2 ^ 64 + low) (answerTo prims map (Transition target high low) m) (machineAfter prims map (Transition target high low) m .lent .cells)
-  step-told F = ⊎-elim (λ a. early-told prims map m target (high * 2 ^ 64 + low) _ _ (a .0)) (λ a. told prims map F m (a .0) target (high * 2 ^ 64 + low) (a .2)) (step-ends prims map m target high low)
+  pub step-told : fit map ≡ true → CellsByCode prims map m target (high * 2 ^ 64 + low) (answerTo prims map (Transition target high low) m)
+      (machineAfter prims map (Transition target high low) m .lent .cells)
+  step-told F =
+      ⊎-elim (λ a. early-told prims map m target (high * 2 ^ 64 + low) _ _ (a .0)) (λ a. told prims map F m (a .0) target (high * 2 ^ 64 + low) (a .2))
+      (step-ends prims map m target high low)

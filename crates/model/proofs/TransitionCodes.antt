@@ -1,5 +1,7 @@
--- When a transition gives each code. The idea: where the words are taken, the table's entry and the token decide the code (`due`); each end has that code, or a 4.
-use Rattle.model.specs.Claims.Terms.{Right, Says}
+-- When a transition gives each code. The idea: where the words are taken, the table's entry and the token decide the code (`due`); each end has that code, or a
+-- 4.
+use Rattle.basics.specs.Choice.{if_then_else_}
+use Rattle.model.specs.Claims.Terms.{ValidInputs, Says}
 use mathlib.Core.Path.{_≡_, refl, sym, ap, _∙_}
 use mathlib.Core.Bool.{Bool, true, false, _&&_, not}
 use mathlib.Core.List.{List}
@@ -8,7 +10,6 @@ use Prim.Native.Nat.{ℕ, suc, _+_, _/_, _*_, _^_, _≤_, _<_}
 use native.Mathlib.Omega.{arith}
 use lib.Dec.{eqb, leb}
 use borrow.Author.Tests.{eqb-false, eq-eqb, ne-eqb, lt-leb, leb-false, not-true, not-false}
-use Rattle.basics.specs.Choice.{if_then_else_}
 use Rattle.basics.proofs.Choice.{true-not-false, if-true, if-false, by-cases, and-left, and-right, not-passed, and-both, if-both}
 use Rattle.words.specs.Programming.{programAnswer}
 use Rattle.words.proofs.Programming.{refused-not-done, program-elsewhere, answer-same}
@@ -19,7 +20,7 @@ use Rattle.life_cycle.specs.declared.Token.the-variants.{Nothing, RawUnlock, Te
 use Rattle.life_cycle.specs.declared.Entry.{Entry}
 use Rattle.life_cycle.specs.declared.Entry.the-variants.{Allowed, Forbidden}
 use Rattle.life_cycle.specs.Words.{stateWords}
-use Rattle.life_cycle.specs.Transitions.{transition}
+use Rattle.life_cycle.specs.Transitions.{tableEntry}
 use Rattle.life_cycle.proofs.Encoding.{counter-length}
 use Rattle.model.specs.declared.Answer.{Answer}
 use Rattle.model.specs.declared.Answer.the-variants.{NotReady}
@@ -32,9 +33,11 @@ use Rattle.model.specs.Commands.{lifeCycleRule, counterAt, stateAt, read
 use Rattle.model.specs.Step.{answerTo, obey, act, performed}
 use Rattle.model.specs.Claims.Numbers.{Agrees, eightFrom}
 use Rattle.model.specs.Claims.Refusals.{early}
-use Rattle.model.specs.Claims.Transitions.{Stops, counterRefused, stateRefused, strokeWords, Compared, Asked, strokeOnly, Fair, Unlocked, testUnlock, testExit, rma, Stored}
+use Rattle.model.specs.Claims.Transitions.{Stops, counterRefused, stateRefused, strokeWords, Compared, Asked, strokeOnly, Fair, Unlocked, testUnlock}
+use Rattle.model.specs.Claims.Transitions.{testExit, rma, Stored}
 use Rattle.model.proofs.Steps.{step-obeys}
-use Rattle.model.proofs.TransitionEnds.{ends, stroke-cells, move, Ending, unknownTarget, used, counterStops, notInTable, tokenNotLocked, tokenDiffers, stateStops, moved, InRange, step-ends}
+use Rattle.model.proofs.TransitionEnds.{ends, stroke-cells, move, Ending, unknownTarget, used, counterStops, notInTable, tokenNotLocked, tokenDiffers}
+use Rattle.model.proofs.TransitionEnds.{stateStops, moved, InRange, step-ends}
 use Rattle.model.specs.declared.Phase.the-variants as phase
 use Rattle.partitions.specs.declared.Kind.the-variants as kind
 use Rattle.words.specs.declared.Programmed.the-variants as programmed
@@ -62,9 +65,9 @@ module _ (prims : Primitives) (map : Map) (m : Machine) (target given : ℕ) whe
   entryCode (Allowed token) = tokenCode token
 
   abbrev due : ℕ
-  due = entryCode (transition (m .session .state) target)
+  due = entryCode (tableEntry (m .session .state) target)
 
-  forbidden-due : transition (m .session .state) target ≡ Forbidden → due ≡ 0x21
+  forbidden-due : tableEntry (m .session .state) target ≡ Forbidden → due ≡ 0x21
   unfolding entryCode
   forbidden-due e = rw e
 
@@ -104,7 +107,8 @@ module _ (prims : Primitives) (map : Map) (m : Machine) (target given : ℕ) whe
     spentAll : target ≤ 20 → 24 ≤ m .session .count → code ≡ 0x20 → Range code
     within : target ≤ 20 → m .session .count < 24 → (code ≡ 0x11 → ⊥) → (code ≡ 0x20 → ⊥) → ((code ≡ 0x04 → ⊥) → code ≡ due) → Range code
 
-  within-code : {answer answer′ : Answer} → InRange prims map m target given → answer ≡ answer′ → eqb (codeOf answer′) 0x11 ≡ false → eqb (codeOf answer′) 0x20 ≡ false
+  within-code : {answer answer′ : Answer} → InRange prims map m target given → answer ≡ answer′ → eqb (codeOf answer′) 0x11 ≡ false
+      → eqb (codeOf answer′) 0x20 ≡ false
       → ((codeOf answer′ ≡ 0x04 → ⊥) → codeOf answer′ ≡ due) → Range (codeOf answer)
   within-code r e f g h = rw e (within (r .0) (r .1) (eqb-false _ _ f) (eqb-false _ _ g) h)
 
@@ -121,7 +125,7 @@ module _ (prims : Primitives) (map : Map) (m : Machine) (target given : ℕ) whe
 
   -- what led to it
   record Causes (code : ℕ) : Type 0 where
-    no-entry : code ≡ 0x21 → transition (m .session .state) target ≡ Forbidden
+    no-entry : code ≡ 0x21 → tableEntry (m .session .state) target ≡ Forbidden
     no-lock : code ≡ 0x22 → Unlocked prims map m target
     other : code ≡ 0x23 → Asked prims map m target given false
     same : code ≡ 0x00 → Asked prims map m target given true
@@ -141,11 +145,15 @@ module _ (prims : Primitives) (map : Map) (m : Machine) (target given : ℕ) whe
   causes (unknownTarget h e) = no-causes e refl refl
   causes (used l h e f) = no-causes e refl refl
   causes (counterStops r h e f) = no-causes e refl refl
-  causes (notInTable t h e f) = rw e (record { no-entry = λ q. h; no-lock = λ q. absurd (omega arith); other = λ q. absurd (omega arith); same = λ q. absurd (omega arith) })
-  causes (tokenNotLocked t h e f) = rw e (record { no-entry = λ q. absurd (omega arith); no-lock = λ q. h; other = λ q. absurd (omega arith); same = λ q. absurd (omega arith) })
-  causes (tokenDiffers t h e f) = rw e (record { no-entry = λ q. absurd (omega arith); no-lock = λ q. absurd (omega arith); other = λ q. h; same = λ q. absurd (omega arith) })
+  causes (notInTable t h e f) =
+      rw e (record { no-entry = λ q. h; no-lock = λ q. absurd (omega arith); other = λ q. absurd (omega arith); same = λ q. absurd (omega arith) })
+  causes (tokenNotLocked t h e f) =
+      rw e (record { no-entry = λ q. absurd (omega arith); no-lock = λ q. h; other = λ q. absurd (omega arith); same = λ q. absurd (omega arith) })
+  causes (tokenDiffers t h e f) =
+      rw e (record { no-entry = λ q. absurd (omega arith); no-lock = λ q. absurd (omega arith); other = λ q. h; same = λ q. absurd (omega arith) })
   causes (stateStops t a h e f) = no-causes e refl refl
-  causes (moved t h g e f) = rw e (record { no-entry = λ q. absurd (omega arith); no-lock = λ q. absurd (omega arith); other = λ q. absurd (omega arith); same = λ q. h })
+  causes (moved t h g e f) =
+      rw e (record { no-entry = λ q. absurd (omega arith); no-lock = λ q. absurd (omega arith); other = λ q. absurd (omega arith); same = λ q. h })
 
   past-only : {code : ℕ} → Range code → (code ≡ 0x11) ↔ (20 < target)
   past-only (past h e) = ((λ q. h), λ q. e)
@@ -189,7 +197,8 @@ module _ (prims : Primitives) (map : Map) (m : Machine) (target given : ℕ) whe
     cell : ℕ
     refused : programAnswer lifeCycleRule (m .lent .cells) (stateAt map) (stateWords (m .lent .constants) target) ≡ programmed.Refused cell
 
-  state-refused : programAnswer lifeCycleRule (m .lent .cells) (counterAt map) (strokeWords prims map m) ≡ programmed.Done → Stops prims map m target given → StateRefused
+  state-refused : programAnswer lifeCycleRule (m .lent .cells) (counterAt map) (strokeWords prims map m) ≡ programmed.Done → Stops prims map m target given
+      → StateRefused
   unfolding sameCode
   state-refused e (counterRefused h) = absurd (refused-not-done (sym h ∙ e))
   state-refused e (stateRefused {cell = cell} t a h) = record { same = asked-due true a; cell = cell; refused = h }
@@ -215,7 +224,7 @@ module _ (prims : Primitives) (map : Map) (m : Machine) (target given : ℕ) whe
       × (target ≤ 20 → m .session .count < 24
       → ((code ≡ 0x04) ↔ Stops prims map m target given)
       × ((code ≡ 0x04 → ⊥)
-      → ((code ≡ 0x21) ↔ (transition (m .session .state) target ≡ Forbidden))
+      → ((code ≡ 0x21) ↔ (tableEntry (m .session .state) target ≡ Forbidden))
       × ((code ≡ 0x22) ↔ Unlocked prims map m target)
       × ((code ≡ 0x23) ↔ Asked prims map m target given false)
       × ((code ≡ 0x00) ↔ Asked prims map m target given true)))
@@ -230,8 +239,12 @@ module _ (prims : Primitives) (map : Map) (m : Machine) (target given : ℕ) whe
         λ l k. (
           (four-stops e, stops-four l k e),
           λ n.
-              (let d = is-due p l k n in
-              ((w .no-entry, λ q. d ∙ forbidden-due q), (w .no-lock, λ q. d ∙ open-due q), (w .other, λ q. d ∙ asked-due false q), (w .same, λ q. d ∙ asked-due true q))),
+              (let d = is-due p l k n in (
+                (w .no-entry, λ q. d ∙ forbidden-due q),
+                (w .no-lock, λ q. d ∙ open-due q),
+                (w .other, λ q. d ∙ asked-due false q),
+                (w .same, λ q. d ∙ asked-due true q),
+              )),
         ),
       )
 
@@ -264,22 +277,24 @@ module _ (prims : Primitives) (map : Map) (m : Machine) (target high low : ℕ) 
   -- a record out of range
   outside : (leb (m .session .state) 20 && leb (m .session .count) 24) ≡ false → (20 < m .session .state) ⊎ (24 < m .session .count)
   outside e =
-      by-cases (leb (m .session .state) 20) (λ s. inr (leb-false _ _ (not-passed (leb (m .session .count) 24) (λ c. true-not-false (and-both _ _ s c) e)))) (λ s. inl (leb-false _ _ s))
+      by-cases (leb (m .session .state) 20) (λ s. inr (leb-false _ _ (not-passed (leb (m .session .count) 24) (λ c. true-not-false (and-both _ _ s c) e))))
+      (λ s. inl (leb-false _ _ s))
 
   not-inside : (20 < m .session .state) ⊎ (24 < m .session .count) → (leb (m .session .state) 20 && leb (m .session .count) 24) ≡ true → ⊥
   not-inside h e =
-      ⊎-elim (λ q. true-not-false (and-left (leb (m .session .state) 20) _ e) (lt-leb _ _ q)) (λ q. true-not-false (and-right (leb (m .session .state) 20) _ e) (lt-leb _ _ q)) h
+      ⊎-elim (λ q. true-not-false (and-left (leb (m .session .state) 20) _ e) (lt-leb _ _ q))
+      (λ q. true-not-false (and-right (leb (m .session .state) 20) _ e) (lt-leb _ _ q)) h
 
   record-refused : (leb (m .session .state) 20 && leb (m .session .count) 24) ≡ false
-      → Says 0x07 0 (perform (refuse NotReady) (m .lent .copy) (m .lent .cells) .answer) ↔ ((20 < m .session .state) ⊎ (24 < m .session .count))
+      → Says 0x07 0 (perform (refuse NotReady) (m .lent) .answer) ↔ ((20 < m .session .state) ⊎ (24 < m .session .count))
   unfolding perform
   record-refused e = ((λ q. outside e), λ q. (refl, refl))
 
-  pub record-sevens : Right map m → m .session .phase ≡ phase.Ready
+  pub record-sevens : ValidInputs map m → m .session .phase ≡ phase.Ready
       → Says 0x07 0 (answerTo prims map (Transition target high low) m) ↔ ((20 < m .session .state) ⊎ (24 < m .session .count))
   unfolding obey act performed readyAct commandAct transitionAct isReady
   record-sevens r e =
-      let to : Act → Type 0 = λ x. Says 0x07 0 (perform x (m .lent .copy) (m .lent .cells) .answer) ↔ ((20 < m .session .state) ⊎ (24 < m .session .count)) in
+      let to : Act → Type 0 = λ x. Says 0x07 0 (perform x (m .lent) .answer) ↔ ((20 < m .session .state) ⊎ (24 < m .session .count)) in
       rw (step-obeys prims map (Transition target high low) m r, answerTo)
       (if-both to (not (isReady (m .session .phase))) _ _ (λ t. absurd (true-not-false (ap isReady e) (not-true _ t)))
       λ t. if-both to (not (leb (m .session .state) 20 && leb (m .session .count) 24)) _ _

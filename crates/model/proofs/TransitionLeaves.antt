@@ -1,5 +1,5 @@
--- What a transition leaves, from a power-up on. The idea: what the words decode to is known from its code, and nothing happens until the next power-up, which decodes
--- them.
+-- What a transition leaves, from a power-up on. The idea: what the words decode to is known from its code, and nothing happens until the next power-up, which
+-- decodes them.
 use mathlib.Core.Path.{_≡_, refl, ap, _∙_}
 use mathlib.Core.Bool.{true, false}
 use mathlib.Core.Option.{none}
@@ -16,12 +16,12 @@ use Rattle.model.specs.declared.Command.the-variants.{Transition, PowerU
 use Rattle.model.specs.Answers.{codeOf}
 use Rattle.model.specs.Session.{isReady}
 use Rattle.model.specs.Lent.{Machine, Primitives}
-use Rattle.model.specs.PowerUp.{verdictOf, lifeCycleIn, waking, wakingOf, lifeCycleWaking, wokenAnswer}
+use Rattle.model.specs.PowerUp.{verdictOf, lifeCycleIn, powerUpEnd, endOf, lifeCycleEnd, poweredAnswer}
 use Rattle.model.specs.Step.{powerUp, machineAfter, answerTo}
-use Rattle.model.specs.Claims.Terms.{Right, Says}
+use Rattle.model.specs.Claims.Terms.{ValidInputs, Says}
 use Rattle.model.specs.Claims.Refusals.{early}
 use Rattle.model.specs.Claims.Transitions.{strokeOnly, Fair, Leaves}
-use Rattle.model.proofs.Steps.{step-up, step-right}
+use Rattle.model.proofs.Steps.{step-up, step-inputs}
 use Rattle.model.proofs.Refusals.{transitions-refuse}
 use Rattle.model.proofs.TransitionEnds.{early-no-stroke}
 use Rattle.model.proofs.NotReady.{later-phase, after-not-ready}
@@ -30,9 +30,9 @@ use Rattle.model.proofs.TransitionLife.{LifeAfter, kept, spent, went, t
 
 module _ (prims : Primitives) (map : Map) (F : fit map ≡ true) where
   -- a power-up that no digest check fails answers what is decoded
-  pub up-says : (m : Machine) → Right map m → (state count : ℕ) → lifeCycleIn map (m .lent) ≡ Valid state count → verdictOf prims map (m .lent) ≡ none
+  pub up-says : (m : Machine) → ValidInputs map m → (state count : ℕ) → lifeCycleIn map (m .lent) ≡ Valid state count → verdictOf prims map (m .lent) ≡ none
       → Says (if eqb state 20 then 0x07 else 0x00) (256 * count + state) (answerTo prims map PowerUp m)
-  unfolding powerUp waking wakingOf lifeCycleWaking wokenAnswer if_then_else_
+  unfolding powerUp powerUpEnd endOf lifeCycleEnd poweredAnswer if_then_else_
   up-says m r state count e v = rw (step-up prims map m r, answerTo, v, e) (by-cases (eqb state 20) (λ t. rw t (refl, refl)) (λ t. rw t (refl, refl)))
 
   module _ (m : Machine) (h : Reached prims map F m) (target high low : ℕ) where
@@ -51,7 +51,7 @@ module _ (prims : Primitives) (map : Map) (F : fit map ≡ true) where
     leave : (state count : ℕ) → early code ≡ false → lifeCycleIn map (m₁ .lent) ≡ Valid state count → Leaves prims map state count m₁
     leave state count e d = record {
       decodes = d;
-      answered = λ l u. rw (after-not-ready prims map l m₁ u (stopped e)) (up-says m₁ (step-right prims map x m (h .held .right)) state count d);
+      answered = λ l u. rw (after-not-ready prims map l m₁ u (stopped e)) (up-says m₁ (step-inputs prims map x m (h .held .right)) state count d);
     }
 
     late : strokeOnly code ≡ true → early code ≡ false
@@ -61,14 +61,17 @@ module _ (prims : Primitives) (map : Map) (F : fit map ≡ true) where
     unfolding early
     zero-late q = rw q
 
-    pub leaves : (strokeOnly code ≡ true → Leaves prims map (m .session .state) (suc (m .session .count)) m₁) × (code ≡ 0x00 → Leaves prims map target (suc (m .session .count)) m₁)
+    pub leaves : (strokeOnly code ≡ true → Leaves prims map (m .session .state) (suc (m .session .count)) m₁)
+        × (code ≡ 0x00 → Leaves prims map target (suc (m .session .count)) m₁)
     leaves = go (transition-life prims map F m (h .held .right) (recorded prims map F m h) target high low)
       where
         zero-no-stroke : {c : ℕ} → strokeOnly c ≡ true → c ≡ 0x00 → ⊥
         zero-no-stroke s z = unfold strokeOnly in (true-not-false s (rw z))
 
-        go : LifeAfter prims map m target (codeOf (answerTo prims map (Transition target high low) m)) (lifeCycleIn map (machineAfter prims map (Transition target high low) m .lent))
-            → (strokeOnly code ≡ true → Leaves prims map (m .session .state) (suc (m .session .count)) m₁) × (code ≡ 0x00 → Leaves prims map target (suc (m .session .count)) m₁)
+        go : LifeAfter prims map m target (codeOf (answerTo prims map (Transition target high low) m))
+            (lifeCycleIn map (machineAfter prims map (Transition target high low) m .lent))
+            → (strokeOnly code ≡ true → Leaves prims map (m .session .state) (suc (m .session .count)) m₁)
+            × (code ≡ 0x00 → Leaves prims map target (suc (m .session .count)) m₁)
         go (kept s z f e) = ((λ q. absurd (true-not-false q s)), λ q. absurd (z q))
         go (spent s v e) = ((λ q. leave _ _ (late q) e), λ q. absurd (zero-no-stroke s q))
         go (went z v a e) = ((λ q. absurd (zero-no-stroke q z)), λ q. leave _ _ (zero-late q) e)

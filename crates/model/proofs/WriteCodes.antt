@@ -1,18 +1,18 @@
--- When a write answers 5, 4 and 0. The idea: the guards of its act are the reasons of a 5, one by one; past them the granule decides, and its words are all taken or
--- one of them is the lowest that refuses.
+-- When a write answers 5, 4 and 0. The idea: the guards of its act are the reasons of a 5, one by one; past them the granule decides, and its words are all
+-- taken or one of them is the lowest that refuses.
 use lib.ListN.{length}
 use Rattle.partitions.proofs.Granules.{granule-within}
 use Rattle.words.proofs.Words.{length-words}
 use Rattle.partitions.specs.declared.Partition.{Partition}
 use mathlib.Core.Path.{_≡_, refl, sym, ap, _∙_}
-use mathlib.Core.Bool.{true, false, not, _&&_}
+use mathlib.Core.Bool.{true, false, not, _&&_, _||_}
 use mathlib.Core.List.{List}
 use mathlib.Core.Logic.{_↔_}
 use Prim.Native.Nat.{ℕ, _+_, _≤_, _<_}
 use native.Mathlib.Omega.{arith}
 use lib.Dec.{leb}
-use borrow.Author.Tests.{eqb-true, eq-eqb, leb-true, leb-false, le-leb, not-false, not-true}
-use Rattle.basics.proofs.Choice.{true-not-false, and-left, and-right, and-both, if-both}
+use borrow.Author.Tests.{eq-eqb, leb-true, le-leb, not-true}
+use Rattle.basics.proofs.Choice.{true-not-false, and-left, and-right, and-both, if-both, or-either}
 use Rattle.words.specs.declared.Programmed.{Programmed}
 use Rattle.words.specs.Programming.{programAnswer, Lowest}
 use Rattle.words.proofs.Programming.{refused-not-done, refused-lowest, lowest-refused}
@@ -25,37 +25,38 @@ use Rattle.model.specs.declared.Answer.the-variants.{Done, NotBlank, Den
 use Rattle.model.specs.declared.Command.{Command}
 use Rattle.model.specs.declared.Command.the-variants.{Write, PowerUp}
 use Rattle.model.specs.Answers.{codeOf}
-use Rattle.model.specs.Session.{isReady, sensedAt, sensedLocked}
+use Rattle.model.specs.Session.{isReady, sensedLocked, locking}
 use Rattle.model.specs.Lent.{Machine, Primitives}
 use Rattle.model.specs.Acts.{Act, perform, Performed}
-use Rattle.model.specs.Commands.{directRule, writeAct, commandAct, readyAct}
+use Rattle.model.specs.Commands.{directRule, writeAct, commandAct, readyAct, writeDenied, storedDigest}
 use Rattle.model.specs.Step.{act, performed, obey, after, machineAfter, answerTo}
-use Rattle.model.specs.Claims.Terms.{Right, Says, Put, Cipher, Digested, storedWords, Allowed}
+use Rattle.model.specs.Claims.Terms.{ValidInputs, Says, Put, Cipher, Digested, storedWords, Allowed}
 use Rattle.model.specs.Claims.Demand3.{Ready}
 use Rattle.model.specs.Claims.Sensing.{Since}
 use Rattle.model.specs.Claims.Burns.{WriteDenied, past, inLifeCycle, inHardwareDigest, locked}
 use Rattle.model.proofs.KindNames.{hardware-kind, kind-hardware}
 use Rattle.model.proofs.Acts.{after-both}
-use Rattle.model.proofs.Steps.{step-obeys, after-right, after-constants, step-constants, cells-length}
+use Rattle.model.proofs.Steps.{step-obeys, after-inputs, after-constants, step-constants, cells-length}
 use Rattle.model.proofs.Since.{first-since, after-since, since-sensed}
 use Rattle.model.proofs.Writes.{write-takes}
 use Rattle.model.proofs.TransitionCells.{put-words}
+use Rattle.model.proofs.Guards.{WriteGuards, not-locked, allowed-below, write-guards, write-open, allowed-there}
+use Rattle.model.proofs.Forms.{Form, act-form, refuses-not-done}
 use Rattle.words.specs.declared.Programmed.the-variants as programmed
 use Rattle.model.specs.declared.Phase.the-variants as phase
 
 module _ (prims : Primitives) (map : Map) (m : Machine) (a value : ℕ) where
   abbrev Takes : Programmed → Type 0
   Takes result =
-      programAnswer (directRule (partitionAt map a) a) (m .lent .cells) (firstWord (partitionAt map a) a) (storedWords prims map (m .lent .constants) a value) ≡ result
+      programAnswer (directRule (partitionAt map a) a) (m .lent .cells) (firstWord (partitionAt map a) a) (storedWords prims map (m .lent .constants) a value)
+      ≡ result
 
   -- ---- the ends of a write on a Ready chip
 
-  -- every guard passes
+  -- not past the map, and not denied there
   record Passed : Type 0 where
-    below : leb (limit map) a ≡ false
-    direct : rightsOf (partitionAt map a .kind) .direct ≡ true
-    soft : (rightsOf (partitionAt map a .kind) .hardware && inDigest (partitionAt map a) a) ≡ false
-    zero : sensedAt (m .session) (numberAt map a) ≡ 0
+    below : a < limit map
+    guards : WriteGuards (partitionAt map a) a (sensedLocked (m .session) (numberAt map a))
 
   data WriteEnd (answer : Answer) : Type 0 where
     denied : WriteDenied prims map m a → answer ≡ Denied → WriteEnd answer
@@ -65,23 +66,33 @@ module _ (prims : Primitives) (map : Map) (m : Machine) (a value : ℕ) where
   -- there is then no reason for a 5
   not-denied : Passed → WriteDenied prims map m a → ⊥
   unfolding rightsOf inDigest
-  not-denied p (past q) = true-not-false (le-leb _ _ q) (p .below)
-  not-denied p (inLifeCycle q) = true-not-false (p .direct) (rw q refl)
-  not-denied p (inHardwareDigest q r) = true-not-false (and-both _ _ (kind-hardware q) (le-leb _ _ r)) (p .soft)
-  not-denied p (locked q) = q (p .zero)
+  not-denied p (past q) = omega (arith, p .below)
+  not-denied p (inLifeCycle q) = true-not-false (p .guards .direct) (rw q refl)
+  not-denied p (inHardwareDigest q r) = true-not-false (and-both _ _ (kind-hardware q) (le-leb _ _ r)) (p .guards .notDigest)
+  not-denied p (locked q) = q (not-locked (m .session) (numberAt map a) (p .guards .unlocked))
+
+  -- a denial has one of the reasons
+  reason : (leb (limit map) a || writeDenied (sensedLocked (m .session) (numberAt map a)) (partitionAt map a) a) ≡ true → WriteDenied prims map m a
+  unfolding writeDenied sensedLocked inDigest
+  reason e =
+      let p = partitionAt map a in
+      let hardware = rightsOf (p .kind) .hardware in
+      let sealed = hardware && leb (p .digest) a in
+      let closed = not (rightsOf (p .kind) .direct) in
+      or-either (leb (limit map) a) _ e (λ t. past (leb-true _ _ t))
+      λ d. or-either (closed || sealed) _ d
+      (λ t. or-either closed sealed t (λ u. inLifeCycle (life-cycle-only _ (not-true _ u)))
+      (λ u. inHardwareDigest (hardware-kind _ (and-left hardware _ u)) (leb-true _ _ (and-right hardware _ u))))
+      (λ t. locked (λ z. true-not-false t (ap not (eq-eqb _ 0 z))))
 
   abbrev Ends : Act → Type 0
-  Ends x = WriteEnd (perform x (m .lent .copy) (m .lent .cells) .answer)
+  Ends x = WriteEnd (perform x (m .lent) .answer)
 
   write-ends : Ends (writeAct prims map m a value)
-  unfolding writeAct perform sensedLocked inDigest
+  unfolding writeAct perform
   write-ends =
-      if-both Ends (leb (limit map) a) _ _ (λ t. denied (past (leb-true _ _ t)) refl)
-      λ l. if-both Ends (not (rightsOf (partitionAt map a .kind) .direct)) _ _ (λ t. denied (inLifeCycle (life-cycle-only _ (not-true _ t))) refl)
-      λ d. if-both Ends (rightsOf (partitionAt map a .kind) .hardware && inDigest (partitionAt map a) a) _ _
-      (λ t. denied (inHardwareDigest (hardware-kind _ (and-left (rightsOf (partitionAt map a .kind) .hardware) _ t)) (leb-true _ _ (and-right (rightsOf (partitionAt map a .kind) .hardware) _ t))) refl)
-      λ h. if-both Ends (sensedLocked (m .session) (numberAt map a)) _ _ (λ t. denied (locked (λ z. true-not-false t (ap not (eq-eqb _ 0 z)))) refl)
-      λ s. (let p : Passed = record { below = l; direct = not-false _ d; soft = h; zero = eqb-true _ 0 (not-false _ s) } in
+      if-both Ends (leb (limit map) a || writeDenied (sensedLocked (m .session) (numberAt map a)) (partitionAt map a) a) _ _ (λ t. denied (reason t) refl)
+      λ t. (let p : Passed = record { below = allowed-below map a _ t; guards = write-guards (partitionAt map a) a (allowed-there map a _ t) } in
       after-both (λ r. WriteEnd (r .answer)) _ _ _ (λ e. done p e refl) (λ i e. stops p e refl))
 
   -- ---- each code
@@ -106,7 +117,8 @@ module _ (prims : Primitives) (map : Map) (m : Machine) (a value : ℕ) where
     ((λ q. absurd (omega (arith, q .0))), λ q. absurd (refused-not-done (sym t ∙ q .1))),
   )
     where
-      same-word : (i : ℕ) → Lowest (directRule (partitionAt map a) a) (m .lent .cells) (firstWord (partitionAt map a) a) (storedWords prims map (m .lent .constants) a value) i → k ≡ i
+      same-word : (i : ℕ) → Lowest (directRule (partitionAt map a) a) (m .lent .cells) (firstWord (partitionAt map a) a)
+          (storedWords prims map (m .lent .constants) a value) i → k ≡ i
       same-word i q = let z : programmed.Refused k ≡ programmed.Refused i = sym t ∙ lowest-refused _ _ _ _ i q in cc
   exact (done p t e) = rw e (
     ((λ q. absurd (omega (arith, q .0))), λ q. absurd (not-denied p q)),
@@ -114,13 +126,13 @@ module _ (prims : Primitives) (map : Map) (m : Machine) (a value : ℕ) where
     ((λ q. (not-denied p, t)), λ q. (refl, refl)),
   )
 
-  ready-ends : Right map m → isReady (m .session .phase) ≡ true → WriteEnd (answerTo prims map (Write a value) m)
+  ready-ends : ValidInputs map m → isReady (m .session .phase) ≡ true → WriteEnd (answerTo prims map (Write a value) m)
   unfolding obey act performed readyAct commandAct
-  ready-ends r awake =
+  ready-ends r atWrite =
       rw (step-obeys prims map (Write a value) m r, answerTo)
-      (if-both Ends (not (isReady (m .session .phase))) _ _ (λ t. absurd (true-not-false awake (not-true _ t))) (λ t. write-ends))
+      (if-both Ends (not (isReady (m .session .phase))) _ _ (λ t. absurd (true-not-false atWrite (not-true _ t))) (λ t. write-ends))
 
-  pub write-exact : Right map m → m .session .phase ≡ phase.Ready → Exact (answerTo prims map (Write a value) m)
+  pub write-exact : ValidInputs map m → m .session .phase ≡ phase.Ready → Exact (answerTo prims map (Write a value) m)
   unfolding isReady
   write-exact r ready = exact (ready-ends r (ap isReady ready))
 
@@ -132,33 +144,37 @@ module _ (prims : Primitives) (map : Map) (m : Machine) (a value : ℕ) where
   done-allowed F c₀ f (denied d e) = rw e (λ z. absurd (omega arith))
   done-allowed F c₀ f (stops p t e) = rw e (λ z. absurd (omega arith))
   done-allowed F c₀ f (done p t e) = λ z. record {
-    below = leb-false _ _ (p .below);
-    direct = p .direct;
-    notDigest = p .soft;
-    unlocked = sym (since-sensed prims map F c₀ m f (numberAt map a) known) ∙ p .zero;
+    below = p .below;
+    notDenied = write-open (partitionAt map a) a (record { direct = p .guards .direct; notDigest = p .guards .notDigest; unlocked = found-zero });
     takes = t;
   }
     where
       known : Digested map (numberAt map a)
-      known = record { known = inside map F (leb-false _ _ (p .below)) .known; direct = p .direct }
+      known = record { known = inside map F (p .below) .known; direct = p .guards .direct }
+
+      found-zero : locking (storedDigest (partitionAt map a) c₀) ≡ false
+      found-zero =
+          ap not (eq-eqb _ 0 (sym (since-sensed prims map F c₀ m f (numberAt map a) known) ∙ not-locked (m .session) (numberAt map a) (p .guards .unlocked)))
 
 module _ (prims : Primitives) (C : Cipher prims) (map : Map) (F : fit map ≡ true) where
-  pub write-allowed : (m : Machine) → Right map m → (l₀ l₁ : List Command) → Ready prims map m l₀ l₁ → (a value : ℕ)
+  pub write-allowed : (m : Machine) → ValidInputs map m → (l₀ l₁ : List Command) → Ready prims map m l₀ l₁ → (a value : ℕ)
       → let m₀ = after prims map l₀ m in
       let m₁ = after prims map l₁ (machineAfter prims map PowerUp m₀) in
       (codeOf (answerTo prims map (Write a value) m₁) ≡ 0x00) ↔ Allowed prims map (m .lent .constants) (m₀ .lent .cells) (m₁ .lent .cells) a value
   write-allowed m r l₀ l₁ ready a value =
       let m₀ = after prims map l₀ m in
       let m₁ = after prims map l₁ (machineAfter prims map PowerUp m₀) in
-      let f = after-since prims map F (m₀ .lent .cells) l₁ (machineAfter prims map PowerUp m₀) (ready .lasts) (first-since prims map F m₀ (after-right prims map l₀ m r) (ready .woke)) in
-      let k : m₁ .lent .constants ≡ m .lent .constants = after-constants prims map l₁ _ ∙ step-constants prims map PowerUp m₀ ∙ after-constants prims map l₀ m in (
+      let f = after-since prims map F (m₀ .lent .cells) l₁ (machineAfter prims map PowerUp m₀) (ready .lasts)
+      (first-since prims map F m₀ (after-inputs prims map l₀ m r) (ready .succeeded)) in
+      let k : m₁ .lent .constants ≡ m .lent .constants = after-constants prims map l₁ _ ∙ step-constants prims map PowerUp m₀
+      ∙ after-constants prims map l₀ m in (
         (λ z. rw k at (done-allowed prims map m₁ a value F (m₀ .lent .cells) f (ready-ends prims map m₁ a value (f .right) (f .ready)) z)),
         λ al. ap codeOf (write-takes prims C map F (m₀ .lent .cells) m₁ f a value (rw k al) .done),
       )
 
 -- ---- the cells of a write that answers 0
 
-module _ (prims : Primitives) (map : Map) (F : fit map ≡ true) (m : Machine) (r : Right map m) (a value : ℕ) where
+module _ (prims : Primitives) (map : Map) (F : fit map ≡ true) (m : Machine) (r : ValidInputs map m) (a value : ℕ) where
   abbrev p : Partition
   p = partitionAt map a
 
@@ -168,19 +184,17 @@ module _ (prims : Primitives) (map : Map) (F : fit map ≡ true) (m : Machine) (
   abbrev Puts : Performed → Type 0
   Puts x = codeOf (x .answer) ≡ 0x00 → Put (directRule p a) (firstWord p a) words (m .lent .cells) (x .cells)
 
-  act-puts : Puts (perform (readyAct prims map m (Write a value)) (m .lent .copy) (m .lent .cells))
-  unfolding readyAct commandAct writeAct perform
-  act-puts =
-      let to : Act → Type 0 = λ x. Puts (perform x (m .lent .copy) (m .lent .cells)) in
-      if-both to _ _ _ (λ t z. absurd (omega arith)) λ t. if-both to (leb (limit map) a) _ _ (λ t z. absurd (omega arith)) λ l. if-both to _ _ _ (λ t z. absurd (omega arith))
-      λ t. if-both to _ _ _ (λ t z. absurd (omega arith)) λ t. if-both to _ _ _ (λ t z. absurd (omega arith))
-      λ t. after-both Puts (programAnswer (directRule p a) (m .lent .cells) (firstWord p a) words) _ _
-      (λ e z. put-words (directRule p a) (firstWord p a) words (m .lent .cells) (room (leb-false _ _ l)) e) (λ i e z. absurd (omega arith))
-    where
-      room : a < limit map → firstWord (partitionAt map a) a + length (storedWords prims map (m .lent .constants) a value) ≤ length (m .lent .cells)
-      room l = rw length-words (omega (arith, granule-within map F l, cells-length prims map m r))
+  space : a < limit map → firstWord p a + length words ≤ length (m .lent .cells)
+  space l = rw length-words (omega (arith, granule-within map F l, cells-length prims map m r))
+
+  form-puts : {act : Act} → Form prims map m (Write a value) act → Puts (perform act (m .lent))
+  unfolding perform
+  form-puts (Form.refuses r) = λ z. absurd (refuses-not-done r z)
+  form-puts (Form.writes w) =
+      after-both Puts (programAnswer (directRule p a) (m .lent .cells) (firstWord p a) words) _ _
+      (λ e z. put-words (directRule p a) (firstWord p a) words (m .lent .cells) (space (w .below)) e) (λ i e z. absurd (omega arith))
 
   pub write-puts : codeOf (answerTo prims map (Write a value) m) ≡ 0x00
       → Put (directRule p a) (firstWord p a) words (m .lent .cells) (machineAfter prims map (Write a value) m .lent .cells)
   unfolding obey act performed
-  write-puts = rw (step-obeys prims map (Write a value) m r, answerTo, machineAfter) act-puts
+  write-puts = rw (step-obeys prims map (Write a value) m r, answerTo, machineAfter) (form-puts (act-form prims map m (Write a value)))

@@ -1,7 +1,8 @@
 -- "An answer is a code and a 64-bit value. The value is 0 unless stated."
 use Prim.Native.Nat.{ℕ}
 use Rattle.model.specs.declared.Answer.{Answer}
-use Rattle.model.specs.declared.Answer.the-variants.{Done, NotBlank, Denied, DigestFailed, NotReady, LifeCycleFailed, WrongLength, UnknownTarget, InvalidConstants, StrokesUsed, NotInTable, TokenNotLocked, TokenDiffers}
+use Rattle.model.specs.declared.Answer.the-variants.{Done, NotBlank, Denied, DigestFailed, NotReady, LifeCycleFailed, WrongLength, UnknownTarget}
+use Rattle.model.specs.declared.Answer.the-variants.{InvalidConstants, StrokesUsed, NotInTable, TokenNotLocked, TokenDiffers}
 
 -- the table of codes; 7 is given for two reasons, `NotReady` and `LifeCycleFailed`. `NotBlank`, "a programmed bit would be cleared": or would be burnt a
 -- second time (request Three).

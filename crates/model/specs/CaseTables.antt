@@ -16,8 +16,8 @@ use Rattle.model.specs.Session.{freshSession}
 use Rattle.model.specs.Lent.{Machine, Primitives}
 use Rattle.model.specs.Step.{after, answers}
 
--- a case: the cells at first, commands, the codes and values that they answer, where it is said, the cells afterwards, and what the RAW_UNLOCK words hold, of the
--- hash of the token 7
+-- a case: the cells at first, commands, the codes and values that they answer, where it is said, the cells afterwards, and what the RAW_UNLOCK words hold, of
+-- the hash of the token 7
 pub record Case : Type 0 where
   pub cells : List ℕ
   pub commands : List Command
@@ -109,7 +109,13 @@ module _ (size : ℕ) where
         -- The first word is blank, and does not take a value either; the second is named (request Five). The next granule takes one.
         ∷ onBlank (PowerUp ∷ Write s 0x10000 ∷ Write s 0x10001 ∷ Write (s + 4) 1 ∷ []) ((0x00, 0) ∷ (0x00, 0) ∷ (0x04, s / 2 + 1) ∷ (0x00, 0) ∷ [])
         -- A zero in a blank granule answers 0 and changes nothing, so that a value can follow.
-        ∷ record { cells = blankArray; commands = PowerUp ∷ Write s 0 ∷ Write s 0 ∷ []; expected = (0x00, 0) ∷ (0x00, 0) ∷ (0x00, 0) ∷ []; left = some blankArray; stored = asIs }
+        ∷ record {
+          cells = blankArray;
+          commands = PowerUp ∷ Write s 0 ∷ Write s 0 ∷ [];
+          expected = (0x00, 0) ∷ (0x00, 0) ∷ (0x00, 0) ∷ [];
+          left = some blankArray;
+          stored = asIs;
+        }
         ∷ onBlank (PowerUp ∷ Write s 0 ∷ Write s 5 ∷ Read s ∷ []) ((0x00, 0) ∷ (0x00, 0) ∷ (0x00, 0) ∷ (0x00, 5) ∷ [])
         ∷ []
 

@@ -6,7 +6,8 @@ use lib.ListN.{replicate}
 use Rattle.partitions.specs.Map1.{map1}
 use Rattle.model.specs.declared.Command.{Command}
 use Rattle.model.specs.declared.Command.the-variants.{Read, Write, FrontRead, Digest, ReadLock, Transition, PowerUp}
-use Rattle.model.specs.Lent.{Machine, Primitives, digestStart, digestFinal}
+use Rattle.constants.specs.Constants.{digestStart, digestFinal}
+use Rattle.model.specs.Lent.{Machine, Primitives}
 use Rattle.model.specs.CaseTables.{Case, asIs, lowestBitChanged, blankArray, onBlank, off, bothSides, secondBurn, whichWord, constants, offChip, HoldOn}
 
 -- 448 words

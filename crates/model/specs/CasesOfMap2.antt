@@ -5,8 +5,10 @@ use mathlib.Core.Option.{none, some}
 use lib.ListN.{replicate}
 use Rattle.partitions.specs.Map2.{map2}
 use Rattle.model.specs.declared.Command.the-variants.{Read, Write, FrontRead, Digest, ReadLock, Transition, PowerUp}
-use Rattle.model.specs.Lent.{Primitives, digestStart, digestFinal}
-use Rattle.model.specs.CaseTables.{Case, asIs, lowestBitChanged, words, number, blankArray, arrayWith, onBlank, off, bothSides, secondBurn, whichWord, constants, HoldOn}
+use Rattle.constants.specs.Constants.{digestStart, digestFinal}
+use Rattle.model.specs.Lent.{Primitives}
+use Rattle.model.specs.CaseTables.{Case, asIs, lowestBitChanged, words, number, blankArray, arrayWith, onBlank, off, bothSides, secondBurn, whichWord}
+use Rattle.model.specs.CaseTables.{constants, HoldOn}
 
 -- count 24, state RAW: from word 696 (0x570) on, 24 counter words that are all D and 20 state words that are zero
 abbrev pub spentOfMap2 : List ℕ
@@ -45,7 +47,13 @@ paperOnMap2 =
     -- 11. RAW to DEV: 0x21; power-up 256.
     ∷ onBlank 740 (PowerUp ∷ Transition 16 0 7 ∷ PowerUp ∷ []) ((0x00, 0) ∷ (0x21, 0) ∷ (0x00, 256) ∷ [])
     -- 12. Count 24, target SCRAP: 0x20, cells unchanged.
-    ∷ record { cells = spentOfMap2; commands = PowerUp ∷ Transition 20 0 0 ∷ []; expected = (0x00, 6144) ∷ (0x20, 0) ∷ []; left = some spentOfMap2; stored = asIs }
+    ∷ record {
+      cells = spentOfMap2;
+      commands = PowerUp ∷ Transition 20 0 0 ∷ [];
+      expected = (0x00, 6144) ∷ (0x20, 0) ∷ [];
+      left = some spentOfMap2;
+      stored = asIs;
+    }
     -- 13. TEST_LOCKED0 to TEST_UNLOCKED1, SECRET0 open: 0x22; the stroke is spent, and a power-up answers 770.
     ∷ onBlank 740 (PowerUp ∷ Transition 1 0 7 ∷ PowerUp ∷ Transition 2 0 0 ∷ PowerUp ∷ Transition 3 0 0 ∷ PowerUp ∷ [])
     ((0x00, 0) ∷ (0x00, 0) ∷ (0x00, 257) ∷ (0x00, 0) ∷ (0x00, 514) ∷ (0x22, 0) ∷ (0x00, 770) ∷ [])
@@ -81,7 +89,8 @@ authStateRows =
 abbrev pub readLockRows : List Case
 readLockRows =
     onBlank 740
-    (PowerUp ∷ ReadLock 1 ∷ ReadLock 2 ∷ ReadLock 3 ∷ ReadLock 5 ∷ ReadLock 6 ∷ ReadLock 7 ∷ ReadLock 8 ∷ ReadLock 9 ∷ ReadLock 10 ∷ ReadLock 11 ∷ ReadLock 255 ∷ [])
+    (PowerUp ∷ ReadLock 1 ∷ ReadLock 2 ∷ ReadLock 3 ∷ ReadLock 5 ∷ ReadLock 6 ∷ ReadLock 7 ∷ ReadLock 8 ∷ ReadLock 9 ∷ ReadLock 10 ∷ ReadLock 11 ∷ ReadLock 255
+    ∷ [])
     ((0x00, 0) ∷ (0x00, 0) ∷ (0x00, 0) ∷ (0x00, 0) ∷ (0x05, 0) ∷ (0x05, 0) ∷ (0x05, 0) ∷ (0x05, 0) ∷ (0x05, 0) ∷ (0x05, 0) ∷ (0x05, 0) ∷ (0x05, 0) ∷ [])
     -- Lock 4 stops reads of AUTH_STATE data, not of its digest or its neighbours, and no write; a power-up clears it.
     ∷ onBlank 740 (PowerUp ∷ ReadLock 4 ∷ Read 0x418 ∷ Read 0x437 ∷ Read 0x438 ∷ Read 0x417 ∷ Read 0x440 ∷ Write 0x418 1 ∷ PowerUp ∷ Read 0x418 ∷ [])
@@ -92,7 +101,8 @@ readLockRows =
 abbrev pub frontReadRows : List Case
 frontReadRows =
     onBlank 740
-    (PowerUp ∷ Write 0x47C 0x99 ∷ Write 0x488 0x11 ∷ Write 0x48F 0x22 ∷ FrontRead 0x488 ∷ PowerUp ∷ FrontRead 0x440 ∷ FrontRead 0x47F ∷ FrontRead 0x488 ∷ FrontRead 0x48F ∷ [])
+    (PowerUp ∷ Write 0x47C 0x99 ∷ Write 0x488 0x11 ∷ Write 0x48F 0x22 ∷ FrontRead 0x488 ∷ PowerUp ∷ FrontRead 0x440 ∷ FrontRead 0x47F ∷ FrontRead 0x488
+    ∷ FrontRead 0x48F ∷ [])
     ((0x00, 0) ∷ (0x00, 0) ∷ (0x00, 0) ∷ (0x00, 0) ∷ (0x00, 0) ∷ (0x00, 0) ∷ (0x00, 0) ∷ (0x00, 0x99) ∷ (0x00, 0x11) ∷ (0x00, 0x22) ∷ [])
     ∷ onBlank 740 (PowerUp ∷ FrontRead 0x43F ∷ FrontRead 0x480 ∷ FrontRead 0x487 ∷ FrontRead 0x490 ∷ FrontRead 0x498 ∷ FrontRead 0x570 ∷ FrontRead 0x5C8 ∷ [])
     ((0x00, 0) ∷ (0x05, 0) ∷ (0x05, 0) ∷ (0x05, 0) ∷ (0x05, 0) ∷ (0x05, 0) ∷ (0x05, 0) ∷ (0x05, 0) ∷ [])

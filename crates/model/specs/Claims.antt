@@ -1,5 +1,6 @@
 -- What is claimed of the commands, over every machine and every list of commands: a file for each subject, each claim under the sentence that it states.
 pub mod Terms
+pub mod Classes
 pub mod Numbers
 pub mod Places
 pub mod Order

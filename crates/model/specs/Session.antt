@@ -28,9 +28,13 @@ noDigests = replicate entries 0
 abbrev pub noLocks : List Bool
 noLocks = replicate entries false
 
+-- a record with no read lock
+abbrev pub unlocked : Phase → List ℕ → ℕ → ℕ → Session
+unlocked phase sensed state count = record { phase = phase; sensed = sensed; locks = noLocks; state = state; count = count }
+
 -- "A fresh record is Off, all else zero."
 abbrev pub freshSession : Session
-freshSession = record { phase = Off; sensed = noDigests; locks = noLocks; state = 0; count = 0 }
+freshSession = unlocked Off noDigests 0 0
 
 -- the one phase in which commands but power-up are answered
 unfoldable pub isReady : Phase → Bool
@@ -44,8 +48,11 @@ unfoldable pub sensedAt : Session → ℕ → ℕ
 sensedAt s number = getD (s .sensed) number 0
 
 -- "Sensed locked means a nonzero sensed digest."
+abbrev pub locking : ℕ → Bool
+locking digest = not (eqb digest 0)
+
 unfoldable pub sensedLocked : Session → ℕ → Bool
-sensedLocked s number = not (eqb (sensedAt s number) 0)
+sensedLocked s number = locking (sensedAt s number)
 
 -- the read lock of a partition by its number; it counts only where the partition's kind has a read lock (`readAct`)
 unfoldable pub readLocked : Session → ℕ → Bool

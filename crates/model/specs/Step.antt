@@ -1,19 +1,20 @@
 -- One command, and lists of commands: "each gets the cells, copy and record that the last one left".
+use Rattle.basics.specs.Choice.{if_then_else_}
 use Prim.Native.Nat.{ℕ}
 use mathlib.Core.Bool.{Bool, not}
 use mathlib.Core.List.{List, [], _∷_}
-use mathlib.Core.Option.{Option}
-use Rattle.basics.specs.Choice.{if_then_else_}
+use mathlib.Core.Option.{Option, none, some}
+use lib.ListN.{length}
 use Rattle.partitions.specs.Map.{Map}
-use Rattle.life_cycle.specs.Constants.{validConstants}
+use Rattle.constants.specs.Constants.{validConstants}
+use Rattle.model.specs.declared.Sizes.{Sizes}
 use Rattle.model.specs.declared.Answer.{Answer}
 use Rattle.model.specs.declared.Answer.the-variants.{WrongLength, InvalidConstants}
 use Rattle.model.specs.declared.Command.{Command}
-use Rattle.model.specs.declared.Command.the-variants.{Read, Write, FrontRead, Digest, ReadLock, Transition, PowerUp}
-use Rattle.model.specs.Lent.{Machine, Primitives, rightLengths}
-use Rattle.model.specs.Acts.{Performed, perform, turned}
-use Rattle.model.specs.Commands.{readyAct}
-use Rattle.model.specs.PowerUp.{verdictOf, waking, wokenCopy, wokenSession, wokenAnswer}
+use Rattle.model.specs.Lent.{Machine, Primitives, withCells, withCopy, sizesOf, rightSizes}
+use Rattle.model.specs.Acts.{Performed, perform, effectOn}
+use Rattle.model.specs.Commands.{readyAct, classOf, sensing, transiting, access}
+use Rattle.model.specs.PowerUp.{verdictOf, powerUpEnd, poweredCopy, poweredSession, poweredAnswer}
 
 -- what is lent and the record after a command, with its answer
 pub record Result : Type 0 where
@@ -31,14 +32,14 @@ pub record Step : Type 0 where
 unfoldable pub unchanged : Answer → Machine → Step
 unchanged answer m = record { result = record { machine = m; answer = answer }; compared = []; verdicts = [] }
 
--- the cells are what the act left, the copy stays, and the record takes its turn
+-- the cells are what the act left, the copy stays, and the record is as the act's effect leaves it
 unfoldable pub performed : Performed → Machine → Step
 performed r m =
     record {
       result = record {
         machine = record {
-          lent = record { cells = r .cells; copy = m .lent .copy; constants = m .lent .constants };
-          session = turned (r .turn) (m .session);
+          lent = withCells (r .cells) (m .lent);
+          session = effectOn (r .effect) (m .session);
         };
         answer = r .answer;
       };
@@ -46,23 +47,31 @@ performed r m =
       verdicts = [];
     }
 
+-- "Order: 0x10, 0x12, 0x07 for phase or record, then 0x11, then 0x05, then 0x04.": the first two, for every command. What is lent is refused with an answer, or
+-- it is not.
+unfoldable pub judgement : Map → Sizes → List ℕ → Option Answer
+judgement map sizes constants =
+    if not (rightSizes map sizes (length constants)) then some WrongLength
+    else if not (validConstants constants) then some InvalidConstants
+    else none
+
 module _ (prims : Primitives) (map : Map) where
   -- a command but power-up: decided, then performed
   unfoldable pub act : Command → Machine → Step
-  act x m = performed (perform (readyAct prims map m x) (m .lent .copy) (m .lent .cells)) m
+  act x m = performed (perform (readyAct prims map m x) (m .lent)) m
 
   -- power-up, with its integrity verdict
   unfoldable pub powerUp : Machine → Step
   powerUp m =
       let l = m .lent in
-      let w = waking prims map l in
+      let w = powerUpEnd prims map l in
       record {
         result = record {
           machine = record {
-            lent = record { cells = l .cells; copy = wokenCopy prims map w l; constants = l .constants };
-            session = wokenSession map w l;
+            lent = withCopy (poweredCopy prims map w l) l;
+            session = poweredSession map w l;
           };
-          answer = wokenAnswer w;
+          answer = poweredAnswer w;
         };
         compared = [];
         verdicts = verdictOf prims map l ∷ [];
@@ -70,20 +79,10 @@ module _ (prims : Primitives) (map : Map) where
 
   -- a command once what is lent is judged
   unfoldable pub obey : Command → Machine → Step
-  obey (Read a) m = act (Read a) m
-  obey (Write a value) m = act (Write a value) m
-  obey (FrontRead a) m = act (FrontRead a) m
-  obey (Digest a) m = act (Digest a) m
-  obey (ReadLock number) m = act (ReadLock number) m
-  obey (Transition target high low) m = act (Transition target high low) m
-  obey PowerUp m = powerUp m
+  obey x m = elim (classOf x) [ sensing ↦ powerUp m | transiting ↦ act x m | access ↦ act x m ]
 
-  -- "Order: 0x10, 0x12, 0x07 for phase or record, then 0x11, then 0x05, then 0x04.": the first two here, for every command
   unfoldable pub step : Command → Machine → Step
-  step x m =
-      if not (rightLengths map (m .lent)) then unchanged WrongLength m
-      else if not (validConstants (m .lent .constants)) then unchanged InvalidConstants m
-      else obey x m
+  step x m = elim (judgement map (sizesOf (m .lent)) (m .lent .constants)) [ some answer ↦ unchanged answer m | none ↦ obey x m ]
 
   -- the machine after a command, and the answer
   abbrev pub machineAfter : Command → Machine → Machine

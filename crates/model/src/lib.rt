@@ -1,6 +1,6 @@
 // The types of the model: the session record, answers and commands. Their meaning is in `specs/`.
 ghost use mathlib.Core.Path.{_≡_};
-ghost use Rattle.model.specs.Session.{freshSession, sensedAt, readLocked};
+ghost use Rattle.model.specs.Session.{freshSession, unlocked, inPhase, withLock, sensedAt, sensedLocked, readLocked};
 ghost use Rattle.model.specs.Answers.{codeOf, valueOf};
 
 // Why a phase is dead: a programmed bit would have been cleared (4), a digest check failed (6), the life cycle is not usable (7).
@@ -28,6 +28,12 @@ pub struct Session {
     pub locks: [bool; 10],
     pub state: u8,
     pub count: u8,
+}
+
+// How many words are lent as cells and as sensed copy.
+pub struct Sizes {
+    pub cells: usize,
+    pub copy: usize,
 }
 
 // What a command answers. `NotBlank` names the lowest cell that refused, `DigestFailed` the partition.
@@ -65,17 +71,50 @@ pub struct Outcome {
 }
 
 impl Session {
+    // A record with no read lock.
+    pub fn unlocked(phase: Phase, sensed: [u64; 10], state: u8, count: u8) -> Session
+        ensures { λ r. ⌜ r ≡ unlocked phase sensed state count ⌝ }
+    {
+        Session {
+            phase,
+            sensed,
+            locks: [false; 10],
+            state,
+            count,
+        }
+    }
+
     // A fresh record: off, all else zero.
     pub fn fresh() -> Session
         ensures { λ r. ⌜ r ≡ freshSession ⌝ }
     {
+        Session::unlocked(Phase::Off, [0; 10], 0, 0)
+    }
+
+    // The record in another phase.
+    pub fn in_phase(self, phase: Phase) -> Session
+        ensures { λ r. ⌜ r ≡ inPhase phase self ⌝ }
+    {
+        let sensed = self.sensed;
+        let locks = self.locks;
         Session {
-            phase: Phase::Off,
-            sensed: [0; 10],
-            locks: [false; 10],
-            state: 0,
-            count: 0,
+            phase,
+            sensed,
+            locks,
+            state: self.state,
+            count: self.count,
         }
+    }
+
+    // The record with a partition read-locked; past the entries there is nothing to lock.
+    pub fn with_lock(self, number: usize) -> Session
+        ensures { λ r. ⌜ r ≡ withLock number self ⌝ }
+    {
+        let mut locked = self;
+        if number < ENTRIES {
+            locked.locks[number] = true;
+        }
+        locked
     }
 
     // The sensed digest of a partition by its number; 0 past the entries.
@@ -87,6 +126,13 @@ impl Session {
         } else {
             0
         }
+    }
+
+    // Whether a partition is sensed locked.
+    pub fn sensed_locked(self, number: usize) -> bool
+        ensures { λ r. ⌜ r ≡ sensedLocked self number ⌝ }
+    {
+        self.sensed_at(number) != 0
     }
 
     // The read lock of a partition by its number; it counts where the partition's kind has one.

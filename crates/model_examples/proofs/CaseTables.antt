@@ -13,17 +13,17 @@ use Rattle.basics.specs.Choice.{if_then_else_}
 use Rattle.words.specs.Programming.{programCells}
 use Rattle.words.proofs.Words.{number-words}
 use Rattle.partitions.specs.Map.{Map}
-use Rattle.life_cycle.specs.Constants.{validConstants}
+use Rattle.constants.specs.Constants.{validConstants, rawUnlockHash}
 use Rattle.life_cycle.specs.Words.{counterWords}
 use Rattle.model.specs.declared.Answer.the-variants.{TokenDiffers}
 use Rattle.model.specs.declared.Command.{Command}
 use Rattle.model.specs.declared.Command.the-variants.{PowerUp}
-use Rattle.model.specs.Lent.{Machine, Primitives, rightLengths, rawUnlockHash}
-use Rattle.model.specs.Acts.{halt, say, perform, noting}
+use Rattle.model.specs.Lent.{Machine, Primitives, rightLengths, withCells}
+use Rattle.model.specs.Acts.{toInert, say, perform, withComparison}
 use Rattle.model.specs.Commands.{lifeCycleRule, counterAt, hashesTo, moveAct}
 use Rattle.model.specs.Step.{Step, performed, obey}
 use Rattle.model.specs.CaseTables.{Case, asIs, lowestBitChanged, blankArray, constantsWith, said, leaves, chipWith, HoldOn}
-use Rattle.model.proofs.Obeyed.{obeyed, obeyedAnswers, run-obeyed}
+use Rattle.model.proofs.JudgedOnce.{afterJudged, answersJudged, run-judged}
 use Rattle.model.proofs.Everything.{everything}
 
 infixr 3 _&_
@@ -67,8 +67,8 @@ module _ (prims : Primitives) (keys : ℕ → ℕ) where
     Row c =
         let m = chipWith prims keys (c .stored) size (c .cells) in
         (rightLengths partitions (m .lent) ≡ true)
-        × (map (said prims keys) (obeyedAnswers prims partitions (c .commands) m) ≡ c .expected)
-        × leaves prims keys (c .left) (obeyed prims partitions (c .commands) m .lent .cells)
+        × (map (said prims keys) (answersJudged prims partitions (c .commands) m) ≡ c .expected)
+        × leaves prims keys (c .left) (afterJudged prims partitions (c .commands) m .lent .cells)
 
     abbrev pub Rows : List Case → Type 0
     Rows [] = Unit {0}
@@ -90,7 +90,7 @@ module _ (prims : Primitives) (keys : ℕ → ℕ) where
     held (c ∷ cs) h =
         let m = chipWith prims keys (c .stored) size (c .cells) in
         let r = h .0 in
-        let q = run-obeyed prims partitions (c .commands) m (r .0) (valid (c .stored)) in
+        let q = run-judged prims partitions (c .commands) m (r .0) (valid (c .stored)) in
         let cells = ap (λ (n : Machine). n .lent .cells) (q .1) in
         ((ap (map (said prims keys)) (q .0) ∙ r .1, subst (leaves prims keys (c .left)) (sym cells) (r .2)), held cs (h .1))
 
@@ -98,16 +98,16 @@ module _ (prims : Primitives) (keys : ℕ → ℕ) where
 
     -- the blank chip after a power-up, and a transition from RAW to TEST_UNLOCKED0 there, with the result of its comparison
     module _ (stored : ℕ → ℕ) where
-      abbrev pub woken : Machine
-      woken = obey prims partitions PowerUp (chipWith prims keys stored size (blankArray size)) .result .machine
+      abbrev pub powered : Machine
+      powered = obey prims partitions PowerUp (chipWith prims keys stored size (blankArray size)) .result .machine
 
       abbrev pub unlocking : Bool → Step
       unlocking result =
-          let cells = programCells lifeCycleRule (woken .lent .cells) (counterAt partitions) (counterWords (woken .lent .constants) 1) in
-          let copy = woken .lent .copy in
-          performed
-          (noting result (if result then perform (moveAct prims partitions woken 1) copy cells else perform (say TokenDiffers halt) copy cells)) woken
+          let cells = programCells lifeCycleRule (powered .lent .cells) (counterAt partitions) (counterWords (powered .lent .constants) 1) in
+          let lent = withCells cells (powered .lent) in
+          performed (withComparison result
+          (if result then perform (moveAct prims partitions powered 1) lent else perform (say TokenDiffers toInert) lent)) powered
 
     -- its answers, with those of the commands after it
     abbrev pub unlocked : List Command → Step → List (ℕ × ℕ)
-    unlocked rest s = (0x00, 0) ∷ said prims keys (s .result .answer) ∷ map (said prims keys) (obeyedAnswers prims partitions rest (s .result .machine))
+    unlocked rest s = (0x00, 0) ∷ said prims keys (s .result .answer) ∷ map (said prims keys) (answersJudged prims partitions rest (s .result .machine))

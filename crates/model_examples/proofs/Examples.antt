@@ -1,16 +1,15 @@
 -- Premises are met: computed runs beside the theorems, each handed to the theorem where its conclusion is not plain.
 use mathlib.Core.Path.{_≡_, refl, sym, subst}
-use mathlib.Core.Bool.{true, false}
+use mathlib.Core.Bool.{true, false, Bool, _&&_}
 use mathlib.Core.List.{List, [], _∷_, _++_}
-use Prim.Native.Nat.{ℕ, _≤_, _<_}
+use Prim.Native.Nat.{ℕ, zero, suc, _≤_, _<_, suc}
 use native.Mathlib.Omega.{arith}
 use lib.Bits.{xor-lt}
 use lib.Dec.{eqb, ltb, lit<}
-use lib.ListN.{length, getD, set, List·getD-eq-default}
+use lib.ListN.{length, getD, set}
 use lib.Seq.{getD-set-other}
-use borrow.Author.Tests.{eqb-true, eqb-false, ltb-true, ltb-false}
-use Rattle.basics.proofs.Choice.{by-cases}
-use Rattle.basics.proofs.Range.{all-at}
+use borrow.Author.Tests.{eqb-true, eqb-false, ltb-true}
+use Rattle.basics.proofs.Choice.{by-cases, and-left, and-right}
 use Rattle.basics.proofs.Bits.{xor-xor}
 use Rattle.words.specs.Words.{numberOf, partAt}
 use Rattle.partitions.specs.Map.{numberAt, partition, partitionAt, inDigest, firstWord, wordCount}
@@ -27,7 +26,8 @@ use Rattle.model.specs.PowerUp.{lifeCycleIn}
 use Rattle.model.specs.Step.{after, answers, machineAfter, answerTo}
 use Rattle.model.specs.CaseTables.{number}
 use Rattle.model.specs.Cases.{blank, table, Hold, blankDigest}
-use Rattle.model.specs.Claims.Terms.{Right, Cipher, DigestFits, Digested, storedWords, Lasts, Spared, usedValue, Allowed, Matched, HiddenWord, Alike, Says}
+use Rattle.model.specs.Claims.Terms.{ValidInputs, Cipher, DigestFits, Digested, storedWords, Lasts, NotWritten, usedValue, Allowed, Matched, HiddenWord, Alike}
+use Rattle.model.specs.Claims.Terms.{Says}
 use Rattle.model.specs.Claims.Demand3.{Ready}
 use Rattle.model.specs.Session.{readLocked}
 use Rattle.model.specs.Claims.Transitions.{Asked, stays, moves}
@@ -40,7 +40,12 @@ use Rattle.model_examples.proofs.Cases.{cases}
 use Rattle.model.proofs.Theorems.{claims}
 
 pub toy-cipher : Cipher toy
-toy-cipher = record { fits = λ key block k b. xor-lt 64 block 1 b (lit< tt); back = λ key block k b. xor-xor block 1 }
+toy-cipher = record {
+  fits = λ key block k b. xor-lt 64 block 1 b (lit< tt);
+  back = λ key block k b. xor-xor block 1;
+  plainFits = λ key block k b. xor-lt 64 block 1 b (lit< tt);
+  forth = λ key block k b. xor-xor block 1;
+}
 
 pub toy-digest : DigestFits toy
 toy-digest = record { fits = λ start final words s f w. lit< tt }
@@ -48,24 +53,33 @@ toy-digest = record { fits = λ start final words s f w. lit< tt }
 abbrev pub toy-claims : Claims toy map1
 toy-claims = claims toy toy-cipher toy-digest map1 map1-fit
 
-pub constants-small : (i : ℕ) → getD (off blank .lent .constants) i 0 < 65536
-unfolding everything
-constants-small i =
-    by-cases (ltb i 132) (λ t. ltb-true _ _ (all-at 132 (λ j. ltb (getD (off blank .lent .constants) j 0) 65536) tt i (ltb-true _ _ t)))
-    (λ t. rw (List·getD-eq-default (off blank .lent .constants) 0 {n = i} (ltb-false _ _ t)) (lit< tt))
+-- words of 16 bits, by a test that is computed
+abbrev pub small : List ℕ → Bool
+small [] = true
+small (w ∷ ws) = ltb w 65536 && small ws
 
-pub right : (cells : List ℕ) → eqb (length cells) 448 ≡ true → Right map1 (off cells)
-right cells e = record { lengths = unfold everything in (rw e); valid = unfold everything in refl; words = constants-small }
+pub small-at : (l : List ℕ) → small l ≡ true → (i : ℕ) → getD l i 0 < 65536
+small-at [] e i = lit< tt
+small-at (w ∷ ws) e zero = ltb-true _ _ (and-left (ltb w 65536) _ e)
+small-at (w ∷ ws) e (suc i) = small-at ws (and-right (ltb w 65536) _ e) i
+
+pub right : (cells : List ℕ) → (eqb (length cells) 448 && small cells) ≡ true → ValidInputs map1 (off cells)
+right cells e = record {
+  lengths = unfold everything in (rw (and-left (eqb (length cells) 448) _ e));
+  valid = unfold everything in refl;
+  words = small-at (off blank .lent .constants) (unfold everything in refl);
+  fuses = small-at cells (and-right (eqb (length cells) 448) _ e);
+}
 
 -- ---- a write: 0x55 at 0x003 of a blank chip is allowed after a power-up, and reads back at 0x000
 
-woken : Ready toy map1 (off blank) [] []
+powered : Ready toy map1 (off blank) [] []
 unfolding everything Lasts
-woken = record { woke = refl; lasts = tt }
+powered = record { succeeded = refl; lasts = tt }
 
 allowed : Allowed toy map1 (off blank .lent .constants) blank (machineAfter toy map1 PowerUp (off blank) .lent .cells) 0x003 0x55
 unfolding everything
-allowed = record { below = lit< tt; direct = refl; notDigest = refl; unlocked = refl; takes = refl }
+allowed = record { below = lit< tt; notDenied = refl; takes = refl }
 
 wrote : Machine
 wrote = machineAfter toy map1 (Write 0x003 0x55) (machineAfter toy map1 PowerUp (off blank))
@@ -87,9 +101,9 @@ still-ready : Lasts toy map1 staying wrote
 unfolding everything Lasts staying wrote
 still-ready = (tt, (tt, (refl, tt)))
 
-spared : Spared toy map1 0x003 staying wrote
-unfolding everything Spared staying wrote
-spared = (λ same done. omega arith, (tt, (tt, tt)))
+unwritten : NotWritten toy map1 0x003 staying wrote
+unfolding everything NotWritten staying wrote
+unwritten = (λ same done. omega arith, (tt, (tt, tt)))
 
 not-read-locked : inDigest (partitionAt map1 0x001) 0x001 ≡ false → readLocked (after toy map1 staying wrote .session) (numberAt map1 0x001) ≡ false
 unfolding everything staying wrote
@@ -98,7 +112,8 @@ not-read-locked e = refl
 reads-meanwhile : answerTo toy map1 (Read 0x001) (after toy map1 staying wrote) ≡ Done (usedValue map1 0x003 0x55)
 unfolding wrote after
 reads-meanwhile =
-    toy-claims .demand3 .writes (off blank) (right blank refl) [] [] woken 0x003 0x55 (lit< tt) allowed .1 staying still-ready spared 0x001 (unfold everything in (lit< tt)) one-granule
+    toy-claims .demand3 .writes (off blank) (right blank refl) [] [] powered 0x003 0x55 (lit< tt) allowed .1 staying still-ready unwritten 0x001
+    (unfold everything in (lit< tt)) one-granule
     not-read-locked
 
 -- secret data is scrambled and reads back while it is open
@@ -125,41 +140,47 @@ reads-on = refl
 
 stored-on : 0x55 ≡ usedValue map1 0x003 0x55
 unfolding wrote after
-stored-on = toy-claims .burns .lasting (off blank) (right blank refl) [] [] woken 0x003 0x55 (lit< tt) allowed passing (λ z. absurd (not-zero z)) (λ e. absurd (not-old e)) 0x001 0x55 one-granule reads-on
+stored-on =
+    toy-claims .burns .lasting (off blank) (right blank refl) [] [] powered 0x003 0x55 (lit< tt) allowed passing (λ z. absurd (not-zero z))
+    (λ e. absurd (not-old e)) 0x001 0x55 one-granule reads-on
 
 -- a write of zero leaves its granule blank: it reads 0 as long as no other write to the granule answers 0
 allowed-zero : Allowed toy map1 (off blank .lent .constants) blank (machineAfter toy map1 PowerUp (off blank) .lent .cells) 0x003 0
 unfolding everything
-allowed-zero = record { below = lit< tt; direct = refl; notDigest = refl; unlocked = refl; takes = refl }
+allowed-zero = record { below = lit< tt; notDenied = refl; takes = refl }
 
 wrote-zero : Machine
 wrote-zero = machineAfter toy map1 (Write 0x003 0) (machineAfter toy map1 PowerUp (off blank))
 
-sparing : List Command
-sparing = Write 0x004 0xFF ∷ Transition 1 0 7 ∷ PowerUp ∷ []
+not-writing : List Command
+not-writing = Write 0x004 0xFF ∷ Transition 1 0 7 ∷ PowerUp ∷ []
 
-passed : Spared toy map1 0x003 sparing wrote-zero
-unfolding everything Spared sparing wrote-zero
+passed : NotWritten toy map1 0x003 not-writing wrote-zero
+unfolding everything NotWritten not-writing wrote-zero
 passed = (λ same done. omega arith, (tt, (tt, tt)))
 
-zero-read : answerTo toy map1 (Read 0x001) (after toy map1 sparing wrote-zero) ≡ Done 0
-unfolding everything sparing wrote-zero
+zero-read : answerTo toy map1 (Read 0x001) (after toy map1 not-writing wrote-zero) ≡ Done 0
+unfolding everything not-writing wrote-zero
 zero-read = refl
 
 zero-on : 0 ≡ usedValue map1 0x003 0
 unfolding wrote-zero after
-zero-on = toy-claims .burns .lasting (off blank) (right blank refl) [] [] woken 0x003 0 (lit< tt) allowed-zero sparing (λ z. passed) (λ e. passed) 0x001 0 one-granule zero-read
+zero-on =
+    toy-claims .burns .lasting (off blank) (right blank refl) [] [] powered 0x003 0 (lit< tt) allowed-zero not-writing (λ z. passed)
+    (λ e. passed) 0x001 0 one-granule zero-read
 
 -- ---- nothing is burnt twice: the write of 0x55 at 0x003 found words 0 and 1 blank, and whatever else is written there, 0x55 stands
 
 found-word : getD (after toy map1 (PowerUp ∷ []) (off blank) .lent .cells) 1 0 ≡ 0
 found-word =
-    toy-claims .burns .taken (off blank) (PowerUp ∷ []) (Write 0x003 0x55) 0 (0x55 ∷ 0 ∷ []) (unfold everything in (writing refl)) (unfold everything in refl) 1 (omega arith) (lit< tt)
+    toy-claims .burns .taken (off blank) (PowerUp ∷ []) (Write 0x003 0x55) 0 (0x55 ∷ 0 ∷ []) (unfold everything in (writing refl))
+    (unfold everything in refl) 1 (omega arith) (lit< tt)
 
 -- a digest command found the four words of HW_CFG's digest blank
 found-digest : getD (after toy map1 (PowerUp ∷ []) (off blank) .lent .cells) 295 0 ≡ 0
 found-digest =
-    toy-claims .burns .taken (off blank) (PowerUp ∷ []) (Digest 0x200) 292 (1 ∷ 0 ∷ 0 ∷ 0 ∷ []) (unfold everything in digesting) (unfold everything in refl) 295 (omega arith) (lit< tt)
+    toy-claims .burns .taken (off blank) (PowerUp ∷ []) (Digest 0x200) 292 (1 ∷ 0 ∷ 0 ∷ 0 ∷ []) (unfold everything in digesting)
+    (unfold everything in refl) 295 (omega arith) (lit< tt)
 
 burnt-word : getD (wrote .lent .cells) 0 0 ≡ 0x55
 unfolding everything wrote
@@ -178,7 +199,8 @@ granule-left : let p = partitionAt map1 0x001 in
     ≡ partAt (wrote .lent .cells) (firstWord p 0x001) (wordCount p 0x001)
 unfolding after
 granule-left =
-    toy-claims .burns .granules wrote 0x001 (unfold everything in (lit< tt)) (unfold everything in refl) (unfold everything in refl) [] (passing ++ staying) (λ z. omega (arith, granule-held))
+    toy-claims .burns .granules wrote 0x001 (unfold everything in (lit< tt)) (unfold everything in refl) (unfold everything in refl) [] (passing ++ staying)
+    (λ z. omega (arith, granule-held))
 
 -- ---- which word: the second of a granule that a write meets, the lowest of a digest given again, a counter word and a state word
 
@@ -218,7 +240,8 @@ refused-since = refl
 -- with value 0, as the theorem says
 says-locked : Says 0x05 0 (answerTo toy map1 (Write 0x000 0xFF) (after toy map1 (locking ++ PowerUp ∷ []) (off blank)))
 says-locked =
-    toy-claims .burns .locked (off blank) (right blank refl) (locking ++ PowerUp ∷ []) 0x000 0xFF (unfold everything locking in refl) (unfold everything locking in refl) .0
+    toy-claims .burns .locked (off blank) (right blank refl) (locking ++ PowerUp ∷ []) 0x000 0xFF (unfold everything locking in refl)
+    (unfold everything locking in refl) .0
 
 -- ---- a digest in one piece: the other half of CREATOR_SW_CFG's is refused, so that after the next power-up it still is what one write put there
 
@@ -322,13 +345,13 @@ front-read : answerTo toy map1 (FrontRead 0x200) (after toy map1 (PowerUp ∷ Wr
 unfolding everything coded
 front-read = refl
 
--- ---- a course: RAW to TEST_UNLOCKED0 spends a stroke and takes an entry of the table
+-- ---- a progress: RAW to TEST_UNLOCKED0 spends a stroke and takes an entry of the table
 
-course-taken : lifeCycleIn map1 (after toy map1 (PowerUp ∷ Transition 1 0 7 ∷ []) (off blank) .lent) ≡ Valid 1 1
+progress-taken : lifeCycleIn map1 (after toy map1 (PowerUp ∷ Transition 1 0 7 ∷ []) (off blank) .lent) ≡ Valid 1 1
 unfolding everything
-course-taken = refl
+progress-taken = refl
 
--- the count of a course rises
+-- the count rises
 count-risen : 0 ≤ 1
 unfolding everything
 count-risen = toy-claims .transitions .counts 0 0 1 1 (moves stays refl)

@@ -1,13 +1,10 @@
 -- Premises of the claims on transitions, digests, read locks, failed power-ups and lists are met: computed runs, and why the premises stand.
 use mathlib.Core.Path.{_≡_, refl}
-use mathlib.Core.List.{List, [], _∷_, _++_}
+use mathlib.Core.List.{[], _∷_, _++_}
 use Prim.Native.Nat.{_+_, _<_}
 use native.Mathlib.Omega.{arith}
-use lib.Dec.{ltb, lit<}
-use lib.ListN.{getD, set, List·getD-eq-default}
-use borrow.Author.Tests.{ltb-true, ltb-false}
-use Rattle.basics.proofs.Choice.{by-cases}
-use Rattle.basics.proofs.Range.{all-at}
+use lib.Dec.{lit<}
+use lib.ListN.{getD, set}
 use Rattle.words.specs.declared.Rule.the-variants.{KeepBits}
 use Rattle.partitions.specs.Map1.{map1}
 use Rattle.partitions.proofs.Maps.{map1-fit}
@@ -19,11 +16,11 @@ use Rattle.model.specs.Lent.{Machine, Primitives}
 use Rattle.model.specs.Step.{after, answers, machineAfter, answerTo}
 use Rattle.model.specs.Cases.{blank}
 use Rattle.model.specs.Session.{noDigests, noLocks}
-use Rattle.model.specs.Claims.Terms.{Right, CellsFit, Put, Says}
+use Rattle.model.specs.Claims.Terms.{ValidInputs, Put, Says}
 use Rattle.model.specs.Claims.Refusals.{reads, refused}
 use Rattle.model.specs.Claims.Burns.{past}
 use Rattle.model.specs.Claims.Transitions.{strokeOnly, strokeWords, moveWords, Stopped, Fair, Leaves}
-use Rattle.model.specs.Claims.Digests.{SparedData, Digestible}
+use Rattle.model.specs.Claims.Digests.{DataNotWritten, Digestible}
 use Rattle.model.specs.Claims.FailedPowerUps.{WrittenAfterDigest, Scrapped}
 use Rattle.model.specs.Claims.Sensing.{Since}
 use Rattle.model.specs.Claims.All.{Claims}
@@ -35,12 +32,6 @@ use Rattle.model_examples.proofs.Examples.{toy-cipher, toy-claims, righ
 -- the blank chip after a power-up
 up : Machine
 up = machineAfter toy map1 PowerUp (off blank)
-
-blank-fits : CellsFit (off blank)
-unfolding everything
-blank-fits i =
-    by-cases (ltb i 448) (λ t. ltb-true _ _ (all-at 448 (λ j. ltb (getD blank j 0) 65536) tt i (ltb-true _ _ t)))
-    (λ t. rw (List·getD-eq-default blank 0 {n = i} (ltb-false _ _ t)) (lit< tt))
 
 -- ---- transitions
 
@@ -93,8 +84,8 @@ digestible : Digestible toy map1 up 0x200
 unfolding everything up
 digestible = record { ready = refl; below = lit< tt; hardware = refl; start = refl; notLocked = refl; takes = refl }
 
-elsewhere : SparedData toy map1 2 (Write 0 5 ∷ PowerUp ∷ []) (machineAfter toy map1 (Digest 0x200) up)
-unfolding everything up SparedData
+elsewhere : DataNotWritten toy map1 2 (Write 0 5 ∷ PowerUp ∷ []) (machineAfter toy map1 (Digest 0x200) up)
+unfolding everything up DataNotWritten
 elsewhere = ((λ n d z. omega (arith, n)), (tt, tt))
 
 -- ---- power-ups that fail
@@ -106,11 +97,12 @@ summing = toyWith (λ words. getD words 0 0 + 1)
 summing-claims : Claims summing map1
 unfolding summing
 summing-claims =
-    claims summing (record { fits = toy-cipher .fits; back = toy-cipher .back }) (record { fits = λ start final words s f w. omega (arith, w 0) }) map1 map1-fit
+    claims summing (record { fits = toy-cipher .fits; back = toy-cipher .back; plainFits = toy-cipher .plainFits; forth = toy-cipher .forth })
+    (record { fits = λ start final words s f w. omega (arith, w 0) }) map1 map1-fit
 
 written-after : WrittenAfterDigest summing map1 (machineAfter summing map1 PowerUp (off blank)) (Digest 0x200 ∷ Write 0x200 5 ∷ []) 2
 written-after =
-    summing-claims .failedPowerUps .sixes (off blank) (right blank refl) blank-fits (unfold everything summing in refl) (Digest 0x200 ∷ Write 0x200 5 ∷ []) 2
+    summing-claims .failedPowerUps .sixes (off blank) (right blank refl) (unfold everything summing in refl) (Digest 0x200 ∷ Write 0x200 5 ∷ []) 2
     (unfold everything summing in (refl, refl))
 
 -- SCRAP after one stroke
@@ -128,7 +120,7 @@ unbounded = refl
 
 shut : answerTo toy map1 (Read 0) (after toy map1 (Write 4 1 ∷ []) (machineAfter toy map1 (ReadLock 0) (after toy map1 (PowerUp ∷ []) (off blank)))) ≡ Denied
 unfolding everything
-shut = toy-claims .readLocks .lasts (off blank) (right blank refl) [] 0 refl (Write 4 1 ∷ []) (tt, tt) 0 (refl, lit< tt)
+shut = toy-claims .readLocks .lasts (off blank) (right blank refl) [] 0 refl (Write 4 1 ∷ []) (tt, tt) 0 refl (lit< tt)
 
 -- a record without locks takes a read lock that locks nothing: no power-up leaves one
 without-locks : Machine
@@ -141,10 +133,11 @@ locks-nothing = refl
 -- ---- writes: 5 past the limit, 4 with the word, 0
 
 past-limit : Says 0x05 0 (answerTo toy map1 (Write 0x380 5) (ready 0 blank))
-past-limit = toy-claims .burns .exactly (ready 0 blank) ready-right refl 0x380 5 .0 .1 (past (unfold everything in (omega arith)))
+past-limit = toy-claims .burns .exactly (ready 0 blank) ready-inputs refl 0x380 5 .0 .1 (past (unfold everything in (omega arith)))
   where
-    ready-right : Right map1 (ready 0 blank)
-    ready-right = record { lengths = right blank refl .lengths; valid = right blank refl .valid; words = right blank refl .words }
+    ready-inputs : ValidInputs map1 (ready 0 blank)
+    ready-inputs =
+        record { lengths = right blank refl .lengths; valid = right blank refl .valid; words = right blank refl .words; fuses = right blank refl .fuses }
 
 -- ---- commands that can be left out: a read, and a write that is denied
 
@@ -160,7 +153,13 @@ denied-left-out = toy-claims .refusals .leftOut (off blank) (PowerUp ∷ []) (Wr
 -- ---- sensing: a second power-up finds what the first left
 
 since-first : Since toy map1 (after toy map1 (Write 0x200 5 ∷ []) up .lent .cells) (after toy map1 ((Write 0x200 5 ∷ []) ++ PowerUp ∷ Write 0 5 ∷ []) up)
-since-first = toy-claims .sensing .since up up-right (Write 0x200 5 ∷ []) (Write 0 5 ∷ []) (tt, tt) (unfold everything up in refl)
+since-first = toy-claims .sensing .since up up-inputs (Write 0x200 5 ∷ []) (Write 0 5 ∷ []) (tt, tt) (unfold everything up in refl)
   where
-    up-right : Right map1 up
-    up-right = unfold up in (record { lengths = unfold everything in refl; valid = unfold everything in refl; words = unfold everything in (right blank refl .words) })
+    up-inputs : ValidInputs map1 up
+    up-inputs =
+        unfold up in (record {
+          lengths = unfold everything in refl;
+          valid = unfold everything in refl;
+          words = unfold everything in (right blank refl .words);
+          fuses = unfold everything in (right blank refl .fuses);
+        })

@@ -4,11 +4,8 @@ use mathlib.Core.Bool.{Bool, true, false}
 use mathlib.Core.List.{List, [], _∷_, _++_}
 use Prim.Native.Nat.{ℕ, zero, suc, _<_}
 use native.Mathlib.Omega.{arith}
-use lib.Dec.{ltb, lit<}
-use lib.ListN.{getD, set, replicate, List·getD-eq-default}
-use borrow.Author.Tests.{ltb-true, ltb-false}
-use Rattle.basics.proofs.Choice.{by-cases}
-use Rattle.basics.proofs.Range.{all-at}
+use lib.Dec.{lit<}
+use lib.ListN.{getD, set, replicate}
 use Rattle.words.specs.declared.Rule.the-variants.{KeepBits}
 use Rattle.words.specs.Words.{wordsOf, partAt}
 use Rattle.words.specs.Programming.{losesBit, Lowest}
@@ -25,14 +22,14 @@ use Rattle.model.specs.Lent.{Machine}
 use Rattle.model.specs.Commands.{directRule, granule}
 use Rattle.model.specs.Step.{step, after, answers, machineAfter, answerTo}
 use Rattle.model.specs.CaseTables.{arrayWith, offChip}
-use Rattle.model.specs.Claims.Terms.{Right, Lasts, Spared, usedValue, Allowed, TakesEffect}
+use Rattle.model.specs.Claims.Terms.{ValidInputs, Lasts, NotWritten, usedValue, Allowed, TakesEffect}
 use Rattle.model.specs.Claims.OldRule.{InAuthState, twoWords, Gains}
 use Rattle.model.specs.Claims.Numbers.{Lockable}
 use Rattle.model.specs.Claims.All.{Claims}
 use Rattle.model.proofs.Everything.{everything}
 use Rattle.model.proofs.ToyChip.{toy}
 use Rattle.model.proofs.Theorems.{claims}
-use Rattle.model_examples.proofs.Examples.{toy-cipher, toy-digest}
+use Rattle.model_examples.proofs.Examples.{toy-cipher, toy-digest, small-at}
 use Rattle.partitions.specs.declared.Kind.the-variants as kind
 use Rattle.model.specs.Claims.Demand3 as demand
 
@@ -46,14 +43,13 @@ blank-chip = off-map2 (replicate 740 0)
 abbrev toy-claims : Claims toy map2
 toy-claims = claims toy toy-cipher toy-digest map2 map2-fit
 
-right : Right map2 blank-chip
+right : ValidInputs map2 blank-chip
 unfolding everything map2
 right = record {
   lengths = refl;
   valid = refl;
-  words = λ i.
-      by-cases (ltb i 132) (λ t. ltb-true _ _ (all-at 132 (λ j. ltb (getD (blank-chip .lent .constants) j 0) 65536) tt i (ltb-true _ _ t)))
-      (λ t. rw (List·getD-eq-default (blank-chip .lent .constants) 0 {n = i} (ltb-false _ _ t)) (lit< tt));
+  words = small-at (blank-chip .lent .constants) refl;
+  fuses = small-at (blank-chip .lent .cells) refl;
 }
 
 -- ---- AUTH_STATE data: 0x0F at 0x418 of a blank chip
@@ -76,7 +72,7 @@ first = Write 0x418 0x0F ∷ []
 
 ready : demand.Ready toy map2 blank-chip [] first
 unfolding everything map2 Lasts first
-ready = record { woke = refl; lasts = (tt, tt) }
+ready = record { succeeded = refl; lasts = (tt, tt) }
 
 abbrev wrote : Machine
 wrote = after toy map2 first (machineAfter toy map2 PowerUp blank-chip)
@@ -104,27 +100,29 @@ cleared = toy-claims .oldRule .refused blank-chip right [] first ready 0x41B 0xF
 -- what was stored is what is read, while no other write there answers 0: one that clears a bit, and a power-up
 allowed : Allowed toy map2 (blank-chip .lent .constants) (replicate 740 0) (machineAfter toy map2 PowerUp blank-chip .lent .cells) 0x418 0x0F
 unfolding everything map2
-allowed = record { below = lit< tt; direct = refl; notDigest = refl; unlocked = refl; takes = refl }
+allowed = record { below = lit< tt; notDenied = refl; takes = refl }
 
-woken : demand.Ready toy map2 blank-chip [] []
+powered : demand.Ready toy map2 blank-chip [] []
 unfolding everything map2 Lasts
-woken = record { woke = refl; lasts = tt }
+powered = record { succeeded = refl; lasts = tt }
 
-sparing : List Command
-sparing = Write 0x419 0xF0 ∷ PowerUp ∷ []
+not-writing : List Command
+not-writing = Write 0x419 0xF0 ∷ PowerUp ∷ []
 
-spared : Spared toy map2 0x418 sparing (step toy map2 (Write 0x418 0x0F) (machineAfter toy map2 PowerUp blank-chip) .result .machine)
-unfolding everything map2 Spared sparing
-spared = (λ same done. omega arith, (tt, tt))
+unwritten : NotWritten toy map2 0x418 not-writing (step toy map2 (Write 0x418 0x0F) (machineAfter toy map2 PowerUp blank-chip) .result .machine)
+unfolding everything map2 NotWritten not-writing
+unwritten = (λ same done. omega arith, (tt, tt))
 
-reads-on : answerTo toy map2 (Read 0x41A) (after toy map2 sparing (step toy map2 (Write 0x418 0x0F) (machineAfter toy map2 PowerUp blank-chip) .result .machine)) ≡ Done 0x0F
-unfolding everything map2 sparing
+reads-on : answerTo toy map2 (Read 0x41A)
+    (after toy map2 not-writing (step toy map2 (Write 0x418 0x0F) (machineAfter toy map2 PowerUp blank-chip) .result .machine)) ≡ Done 0x0F
+unfolding everything map2 not-writing
 reads-on = refl
 
 stored-on : 0x0F ≡ usedValue map2 0x418 0x0F
 unfolding after
 stored-on =
-    toy-claims .burns .lasting blank-chip right [] [] woken 0x418 0x0F (lit< tt) allowed sparing (λ z. spared) (λ e. spared) 0x41A 0x0F (unfold everything map2 in refl) reads-on
+    toy-claims .burns .lasting blank-chip right [] [] powered 0x418 0x0F (lit< tt) allowed not-writing (λ z. unwritten) (λ e. unwritten) 0x41A 0x0F
+    (unfold everything map2 in refl) reads-on
 
 -- ---- the digest behind it: the new rule, so that it never changes
 
@@ -148,7 +146,8 @@ digest-stays =
 
 tested-map2 : List ℕ
 tested-map2 =
-    replicate 0x24C 0 ++ (0x71 ∷ 0 ∷ 0 ∷ 0 ∷ 1 ∷ 0 ∷ 0 ∷ 0 ∷ []) ++ replicate 8 0 ++ (1 ∷ replicate 91 0) ++ (3 ∷ 3 ∷ replicate 22 1) ++ (3 ∷ 3 ∷ replicate 18 1)
+    replicate 0x24C 0 ++ (0x71 ∷ 0 ∷ 0 ∷ 0 ∷ 1 ∷ 0 ∷ 0 ∷ 0 ∷ []) ++ replicate 8 0 ++ (1 ∷ replicate 91 0) ++ (3 ∷ 3 ∷ replicate 22 1)
+    ++ (3 ∷ 3 ∷ replicate 18 1)
 
 token-taken : answers toy map2 (PowerUp ∷ Transition 3 0 0x71 ∷ PowerUp ∷ []) (off-map2 tested-map2) ≡ Done 514 ∷ Done 0 ∷ Done 771 ∷ []
 unfolding everything map2 tested-map2
@@ -171,7 +170,8 @@ exit-taken = (refl, refl)
 -- the RMA token, 0x81, at the start of SECRET2, word 0x28C, which is locked, and SECRET0 open: DEV goes to RMA
 returning : List ℕ
 returning =
-    replicate 0x28C 0 ++ (0x81 ∷ 0 ∷ 0 ∷ 0 ∷ 1 ∷ 0 ∷ 0 ∷ 0 ∷ []) ++ replicate 32 0 ++ (1 ∷ 0 ∷ 0 ∷ 0 ∷ []) ++ (3 ∷ replicate 23 1) ++ (replicate 16 3 ++ replicate 4 1)
+    replicate 0x28C 0 ++ (0x81 ∷ 0 ∷ 0 ∷ 0 ∷ 1 ∷ 0 ∷ 0 ∷ 0 ∷ []) ++ replicate 32 0 ++ (1 ∷ 0 ∷ 0 ∷ 0 ∷ []) ++ (3 ∷ replicate 23 1)
+    ++ (replicate 16 3 ++ replicate 4 1)
 
 rma-taken :
     (answers toy map2 (PowerUp ∷ Transition 19 0 0x81 ∷ PowerUp ∷ []) (off-map2 returning) ≡ Done 272 ∷ Done 0 ∷ Done 531 ∷ [])
@@ -204,7 +204,8 @@ digest-unchecked = refl
 abbrev with-locks : Bool → Machine
 with-locks lock = record { lent = blank-chip .lent; session = record { phase = Ready; sensed = noDigests; locks = replicate 10 lock; state = 0; count = 0 } }
 
-locks-that-count : answers toy map2 (Read 0x000 ∷ Read 0x040 ∷ Read 0x140 ∷ Read 0x240 ∷ Read 0x418 ∷ Read 0x440 ∷ Read 0x488 ∷ Read 0x498 ∷ []) (with-locks true)
+locks-that-count : answers toy map2 (Read 0x000 ∷ Read 0x040 ∷ Read 0x140 ∷ Read 0x240 ∷ Read 0x418 ∷ Read 0x440 ∷ Read 0x488 ∷ Read 0x498 ∷ [])
+    (with-locks true)
     ≡ Denied ∷ Denied ∷ Denied ∷ Denied ∷ Denied ∷ Done 0 ∷ Done 0 ∷ Done 1 ∷ []
 unfolding everything map2
 locks-that-count = refl

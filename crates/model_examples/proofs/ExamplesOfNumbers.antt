@@ -17,7 +17,7 @@ use Rattle.model.specs.Lent.{Machine}
 use Rattle.model.specs.Answers.{codeOf}
 use Rattle.model.specs.Step.{after, answerTo}
 use Rattle.model.specs.Cases.{blank}
-use Rattle.model.specs.Claims.Terms.{Right, Says}
+use Rattle.model.specs.Claims.Terms.{ValidInputs, Says}
 use Rattle.model.specs.Claims.Numbers.{Lockable, Shown}
 use Rattle.model.specs.Claims.Order.{Lengths, ValidPairs}
 use Rattle.model.specs.Claims.Reads.{InHwCfgData}
@@ -30,8 +30,8 @@ use Rattle.model_examples.proofs.Examples.{toy-claims, right}
 use Rattle.partitions.specs.declared.Kind.the-variants as kind
 use Rattle.life_cycle.specs.declared.Token.the-variants as token
 
-ready-right : Right map1 (ready 0 blank)
-ready-right = record { lengths = right blank refl .lengths; valid = right blank refl .valid; words = right blank refl .words }
+ready-inputs : ValidInputs map1 (ready 0 blank)
+ready-inputs = record { lengths = right blank refl .lengths; valid = right blank refl .valid; words = right blank refl .words; fuses = right blank refl .fuses }
 
 -- ---- the order of refusals: the blank chip, switched off, has right lengths and valid constants, and answers 7
 
@@ -58,14 +58,14 @@ twelve = refl
 
 shown : Shown toy map1 (ready 0 blank .lent .constants) blank 0x203 0
 unfolding everything
-shown = toy-claims .reads .shows (ready 0 blank) ready-right 0x203 0 refl
+shown = toy-claims .reads .shows (ready 0 blank) ready-inputs 0x203 0 refl
 
 in-hw-cfg : InHwCfgData map1 0x203
 unfolding everything
 in-hw-cfg = record { below = lit< tt; isHwCfg = refl; isData = lit< tt }
 
 front-shown : answerTo toy map1 (FrontRead 0x203) (ready 0 blank) ≡ Done (numberOf (partAt (ready 0 blank .lent .copy) 256 2))
-front-shown = toy-claims .reads .frontRead (ready 0 blank) ready-right refl 0x203 .0 in-hw-cfg
+front-shown = toy-claims .reads .frontRead (ready 0 blank) ready-inputs refl 0x203 .0 in-hw-cfg
 
 -- ---- a digest location that is not blank: word 293 is named; a read lock of a partition without one: 5
 
@@ -74,7 +74,7 @@ unfolding everything
 named = (refl, refl)
 
 no-lock : Says 0x05 0 (answerTo toy map1 (ReadLock 2) (ready 0 blank))
-no-lock = toy-claims .readLocks .exactly (ready 0 blank) ready-right refl 2 .1 (λ l. hw-cfg)
+no-lock = toy-claims .readLocks .exactly (ready 0 blank) ready-inputs refl 2 .1 (λ l. hw-cfg)
   where
     none : {k : Kind} → k ≡ kind.HwCfg → Lockable k → ⊥
     none e Lockable.software = let z : _≡_ {A = ℕ} 0 1 = cc in omega arith
@@ -113,11 +113,13 @@ stored = record { digest = λ e. omega (arith, e); lowHalf = refl; highHalf = re
 compared : Compared toy map1 (after toy map1 (PowerUp ∷ []) (off tested)) 0x71 true token.TestUnlock
 unfolding after tested
 compared =
-    toy-claims .tokens .compared (off tested) (right tested (unfold tested in refl)) [] [] tt (unfold everything tested in refl) token.TestUnlock kind.Secret0 0 0 0x70 0 testUnlock
+    toy-claims .tokens .compared (off tested) (right tested (unfold tested in refl)) [] [] tt
+    (unfold everything tested in refl) token.TestUnlock kind.Secret0 0 0 0x70 0 testUnlock
     (lit< tt) (lit< tt) stored 0x71 true .1 refl
 
 out-of-locked : Compared toy map1 (after toy map1 (PowerUp ∷ []) (off tested)) 0x71 true token.TestUnlock
     ⊎ Compared toy map1 (after toy map1 (PowerUp ∷ []) (off tested)) 0x71 true token.TestExit
 out-of-locked =
-    toy-claims .lifeCycles .outOfLocked (after toy map1 (PowerUp ∷ []) (off tested)) 0 3 0 0x71 (lit< tt) (unfold everything tested in refl) (λ e. omega (arith, e))
+    toy-claims .lifeCycles .outOfLocked (after toy map1 (PowerUp ∷ []) (off tested)) 0 3 0 0x71 (lit< tt) (unfold everything tested in refl)
+    (λ e. omega (arith, e))
     (unfold everything tested in refl)

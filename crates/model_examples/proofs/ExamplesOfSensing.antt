@@ -34,7 +34,8 @@ clear n = block 6 ++ blocks (n - 1) 1 ++ block 1
 -- ---- Map 1: nothing of 0 and 1 is latched, and past partition 5 there is no digest
 
 sensed-on-map1 :
-    let m = after toy map1 (PowerUp ∷ []) (offChip toy (λ i. 0) 448 (marked 124 11 ++ marked 124 12 ++ marked 36 1 ++ marked 16 1 ++ marked 40 1 ++ marked 40 1 ++ life)) in
+    let m = after toy map1 (PowerUp ∷ [])
+    (offChip toy (λ i. 0) 448 (marked 124 11 ++ marked 124 12 ++ marked 36 1 ++ marked 16 1 ++ marked 40 1 ++ marked 40 1 ++ life)) in
     (m .session .sensed ≡ 11 ∷ 12 ∷ 1 ∷ 1 ∷ 1 ∷ 1 ∷ 0 ∷ 0 ∷ 0 ∷ 0 ∷ [])
     × (m .lent .copy ≡ replicate 256 0 ++ marked 36 1 ++ clear 4 ++ clear 10 ++ clear 10 ++ life)
 unfolding everything blocks
@@ -45,7 +46,8 @@ sensed-on-map1 = (refl, refl)
 sensed-on-map2 :
     let m = after toy map2 (PowerUp ∷ [])
     (offChip toy (λ i. 0) 740
-    (marked 28 11 ++ marked 124 12 ++ marked 124 13 ++ marked 232 14 ++ marked 16 15 ++ marked 32 1 ++ marked 4 1 ++ marked 16 1 ++ marked 40 1 ++ marked 40 1 ++ life)) in
+    (marked 28 11 ++ marked 124 12 ++ marked 124 13 ++ marked 232 14 ++ marked 16 15 ++ marked 32 1 ++ marked 4 1 ++ marked 16 1 ++ marked 40 1 ++ marked 40 1
+    ++ life)) in
     (m .session .sensed ≡ 11 ∷ 12 ∷ 13 ∷ 14 ∷ 15 ∷ 1 ∷ 1 ∷ 1 ∷ 1 ∷ 1 ∷ [])
     × (m .lent .copy ≡ replicate 544 0 ++ marked 32 1 ++ marked 4 1 ++ clear 4 ++ clear 10 ++ clear 10 ++ life)
 unfolding everything map2 blocks

@@ -1,5 +1,5 @@
--- Both maps in the papers' own numbers: sizes, kinds, and which partitions have which right. Each list is computed. In a fit map partitions adjoin from 0 and end with
--- a digest of eight bytes: there the sizes fix every address.
+-- Both maps in the papers' own numbers: sizes, kinds, and which partitions have which right. Each list is computed. In a fit map partitions adjoin from 0 and
+-- end with a digest of eight bytes: there the sizes fix every address.
 use mathlib.Core.Path.{_≡_, refl}
 use mathlib.Core.List.{[], _∷_}
 use Rattle.basics.specs.Choice.{if_then_else_}

@@ -76,7 +76,8 @@ unaligned : fit (secrets (row Software 216 228 236 4 ∷ row Software 236 248 25
 unfolding fitness
 unaligned = refl
 
--- ---- "each is of a kind in Map 2, with that kind's rights and room for its data and digest": the type has these kinds alone, and `rightsOf` their rights; so a
+-- ---- "each is of a kind in Map 2, with that kind's rights and room for its data and digest": the type has these kinds alone, and `rightsOf` their rights; so
+-- a
 -- granule that is not the kind's, no data, a digest of 16 bytes, none
 
 granule-of-8 : fit (secrets (row Software 216 224 232 8 ∷ last 232)) ≡ false
@@ -124,7 +125,8 @@ small-secret2 : fit (row Secret0 0 32 40 8 ∷ row Secret1 40 120 128 8 ∷ row 
 unfolding fitness
 small-secret2 = refl
 
--- ---- "one life cycle part last, of 88 bytes": none, none but 88 bytes of another kind, two, one that is not last, one of 80 bytes, one of 96, one with a digest
+-- ---- "one life cycle part last, of 88 bytes": none, none but 88 bytes of another kind, two, one that is not last, one of 80 bytes, one of 96, one with a
+-- digest
 
 no-life-cycle : fit (secrets []) ≡ false
 unfolding fitness

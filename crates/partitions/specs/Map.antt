@@ -74,7 +74,7 @@ firstWord p a = a / granuleAt p a * (granuleAt p a / 2)
 unfoldable pub wordCount : Partition → ℕ → ℕ
 wordCount p a = granuleAt p a / 2
 
--- kinds told apart by a number, and the number of the first partition of a kind
+-- kinds by a number, and the number of the first partition of a kind
 unfoldable pub kindNumber : Kind → ℕ
 kindNumber Software = 0
 kindNumber AuthState = 1

@@ -6,7 +6,7 @@ pub mod map2;
 ghost use mathlib.Core.Path.{_≡_};
 ghost use Prim.Native.Nat.{_/_};
 ghost use lib.ListN.{length};
-ghost use Rattle.partitions.specs.Map.{rightsOf, numberAt, partition, limit, granuleAt, firstWord, wordCount, numberOfKind};
+ghost use Rattle.partitions.specs.Map.{rightsOf, numberAt, partition, limit, inDigest, granuleAt, firstWord, wordCount, numberOfKind};
 ghost use Rattle.partitions.specs.Maps.{mapOf};
 
 pub enum Kind {
@@ -121,11 +121,26 @@ impl Partition {
     // Every digest is read and written in one piece.
     const DIGEST_GRANULE: usize = 8;
 
+    // What its kind is granted.
+    pub fn rights(self) -> Rights
+        ensures { λ r. ⌜ r ≡ rightsOf (self .kind) ⌝ }
+    {
+        let kind = self.kind;
+        kind.rights()
+    }
+
+    // Whether a byte address of the partition is in its digest; else it is in its data.
+    pub fn in_digest(self, address: usize) -> bool
+        ensures { λ r. ⌜ r ≡ inDigest self address ⌝ }
+    {
+        self.digest <= address
+    }
+
     // The granule of a byte address, in bytes.
     fn granule_size(self, address: usize) -> usize
         ensures { λ r. ⌜ r ≡ granuleAt self address ⌝ }
     {
-        if self.digest <= address {
+        if self.in_digest(address) {
             Partition::DIGEST_GRANULE
         } else {
             self.granule

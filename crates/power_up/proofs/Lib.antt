@@ -1,3 +1,3 @@
 pub mod Checking
 pub mod Sensing
-pub mod Waking
+pub mod PowerUpEnd

@@ -7,6 +7,7 @@ use model::Outcome;
 use model::Phase;
 use model::Reason;
 use model::Session;
+use model::Sizes;
 use partitions::MapName;
 use partitions::Partition;
 ghost use mathlib.Core.Path.{_≡_};
@@ -16,16 +17,12 @@ ghost use Rattle.basics.specs.Range.{listed};
 ghost use Rattle.partitions.specs.Map.{limit};
 ghost use Rattle.partitions.specs.Maps.{mapOf};
 ghost use Rattle.model.specs.declared.Command.the-variants.{PowerUp};
-ghost use Rattle.model.specs.Commands.{computedDigest};
-ghost use Rattle.model.specs.PowerUp.{sensedDigest, digests, digestHolds, firstFailing, copyWord, lifeCycleIn, lifeCycleWaking, waking, wakes};
-ghost use Rattle.chip.specs.Chip.{primitives, machineOf, resultOf, resultFor};
-ghost use Rattle.power_up.specs.Waking.{verdictIn, lentOf, wokenResult, deadOutcome};
+ghost use Rattle.model.specs.PowerUp.{sensedDigest, digests, digestHolds, firstFailing, copyWord, lifeCycleIn, lifeCycleEnd, powerUpEnd, succeeds};
+ghost use Rattle.chip.specs.Chip.{primitives, lentOf, resultOf, Executes};
+ghost use Rattle.power_up.specs.PowerUpEnd.{verdictIn, poweredResult, deadOutcome};
 
 // The value for a life cycle that is not valid.
 const INVALID: u64 = 0xFFFF;
-
-// No partition is read-locked.
-const UNLOCKED: [bool; 10] = [false; 10];
 
 // The digest checks all passed, or the number of the first partition that failed.
 enum Verdict {
@@ -33,23 +30,12 @@ enum Verdict {
     Failed(usize),
 }
 
-// The digest of a partition's data words, as stored.
-fn computed_digest(cells: &[u16], constants: &[u16], partition: Partition) -> u64
-    requires { ⌜ (partition .start ≤ partition .digest) × (partition .digest ≤ 2 * length (now cells)) ⌝ }
-    ensures { λ r. ⌜ r ≡ computedDigest primitives (now (constants .entry)) partition (now (cells .entry)) ⌝ }
-{
-    let start = partition.start / 2;
-    let end = partition.digest / 2;
-    chip::digest_of(constants, &cells[start..end])
-}
-
 // A partition has no hardware digest, stores none yet, or stores the one computed.
 fn digest_holds(cells: &[u16], constants: &[u16], partition: Partition) -> bool
-    requires { ⌜ (partition .start ≤ partition .digest) × (partition .digest ≤ 2 * length (now cells)) ⌝ }
+    requires { ⌜ (partition .start / 2 ≤ partition .digest / 2) × (partition .digest / 2 ≤ length (now cells)) ⌝ }
     ensures { λ r. ⌜ r ≡ digestHolds primitives (now (constants .entry)) (now (cells .entry)) partition ⌝ }
 {
-    let kind = partition.kind;
-    let rights = kind.rights();
+    let rights = partition.rights();
     if !rights.hardware {
         return true;
     }
@@ -57,13 +43,13 @@ fn digest_holds(cells: &[u16], constants: &[u16], partition: Partition) -> bool
     if stored == 0 {
         return true;
     }
-    stored == computed_digest(cells, constants, partition)
+    stored == chip::computed_digest(cells, constants, partition)
 }
 
 // The digest checks of the partitions in order.
 fn first_failing(cells: &[u16], constants: &[u16], map: MapName) -> Verdict
     requires { ⌜ length (now cells) ≡ limit (mapOf map) / 2 ⌝ }
-    ensures { λ r. ⌜ r ≡ verdictIn (firstFailing primitives (now (constants .entry)) (now (cells .entry)) 0 (mapOf map)) ⌝ }
+    ensures { λ r. ⌜ r ≡ verdictIn (firstFailing primitives (mapOf map) (now (constants .entry)) (now (cells .entry))) ⌝ }
 {
     let count = map.count();
     let mut number = 0;
@@ -80,8 +66,7 @@ fn first_failing(cells: &[u16], constants: &[u16], map: MapName) -> Verdict
 fn sensed_digest(cells: &[u16], partition: Partition) -> u64
     ensures { λ r. ⌜ r ≡ sensedDigest (now (cells .entry)) partition ⌝ }
 {
-    let kind = partition.kind;
-    let rights = kind.rights();
+    let rights = partition.rights();
     if !rights.direct {
         return 0;
     }
@@ -108,13 +93,12 @@ fn sensed_block(cells: &[u16], constants: &[u16], map: MapName, at: usize) -> [u
 {
     let address = 2 * at;
     let partition = map.partition_of(map.number_at(address));
-    let kind = partition.kind;
-    let rights = kind.rights();
+    let rights = partition.rights();
     if rights.lockable {
         return [0, 0, 0, 0];
     }
     let block = words::block_at(cells, at);
-    if partition.digest <= address {
+    if partition.in_digest(address) {
         return words::split(block);
     }
     words::split(chip::unscrambled(constants, partition, block))
@@ -153,13 +137,7 @@ fn dead(copy: &mut [u16], reason: Reason, answer: Answer) -> Outcome
     ensures outcome { λ r. ⌜ r ≡ deadOutcome reason answer ⌝ }
 {
     clear(copy);
-    let session = Session {
-        phase: Phase::Dead(reason),
-        sensed: [0; 10],
-        locks: UNLOCKED,
-        state: 0,
-        count: 0,
-    };
+    let session = Session::unlocked(Phase::Dead(reason), [0; 10], 0, 0);
     Outcome { session, answer }
 }
 
@@ -180,25 +158,23 @@ fn ready(
     count: u8,
 ) -> Outcome
     requires { ⌜ (length (now cells) ≡ limit (mapOf map) / 2) × (length (now copy) ≡ limit (mapOf map) / 2) ⌝ }
-    ensures { λ r. ⌜ resultOf (now (cells .entry)) (now (copy .exit)) (now (constants .entry)) r ≡ wokenResult (mapOf map) (λ l. wakes state count) (lentOf (now (cells .entry)) (now (copy .entry)) (now (constants .entry))) ⌝ }
+    ensures { λ r.
+        ⌜ resultOf (lentOf (now (cells .entry)) (now (copy .exit)) (now (constants .entry))) r
+        ≡ poweredResult (mapOf map) (λ l. succeeds state count) (lentOf (now (cells .entry)) (now (copy .entry)) (now (constants .entry))) ⌝ }
 {
     latch(cells, constants, map, copy);
-    let sensed = stored_digests(cells, map);
-    let session = Session {
-        phase: Phase::Ready,
-        sensed,
-        locks: UNLOCKED,
-        state,
-        count,
-    };
+    let session = Session::unlocked(Phase::Ready, stored_digests(cells, map), state, count);
     let answer = Answer::Done(value_of(state, count));
     Outcome { session, answer }
 }
 
 // After the digest checks: the life cycle decides.
-fn live(cells: &[u16], copy: &mut [u16], constants: &[u16], map: MapName) -> Outcome
+fn after_digest_checks(cells: &[u16], copy: &mut [u16], constants: &[u16], map: MapName) -> Outcome
     requires { ⌜ (length (now cells) ≡ limit (mapOf map) / 2) × (length (now copy) ≡ limit (mapOf map) / 2) ⌝ }
-    ensures { λ r. ⌜ resultOf (now (cells .entry)) (now (copy .exit)) (now (constants .entry)) r ≡ wokenResult (mapOf map) (λ l. lifeCycleWaking (lifeCycleIn (mapOf map) l)) (lentOf (now (cells .entry)) (now (copy .entry)) (now (constants .entry))) ⌝ }
+    ensures { λ r.
+        ⌜ resultOf (lentOf (now (cells .entry)) (now (copy .exit)) (now (constants .entry))) r
+        ≡ poweredResult (mapOf map) (λ l. lifeCycleEnd (lifeCycleIn (mapOf map) l))
+        (lentOf (now (cells .entry)) (now (copy .entry)) (now (constants .entry))) ⌝ }
 {
     let counter = chip::counter_at(map);
     let state = chip::state_at(map);
@@ -225,13 +201,15 @@ fn live(cells: &[u16], copy: &mut [u16], constants: &[u16], map: MapName) -> Out
 }
 
 // After the judgement: the digest checks come first.
-fn woken(cells: &[u16], copy: &mut [u16], constants: &[u16], map: MapName) -> Outcome
+fn after_judgement(cells: &[u16], copy: &mut [u16], constants: &[u16], map: MapName) -> Outcome
     requires { ⌜ (length (now cells) ≡ limit (mapOf map) / 2) × (length (now copy) ≡ limit (mapOf map) / 2) ⌝ }
-    ensures { λ r. ⌜ resultOf (now (cells .entry)) (now (copy .exit)) (now (constants .entry)) r ≡ wokenResult (mapOf map) (waking primitives (mapOf map)) (lentOf (now (cells .entry)) (now (copy .entry)) (now (constants .entry))) ⌝ }
+    ensures { λ r.
+        ⌜ resultOf (lentOf (now (cells .entry)) (now (copy .exit)) (now (constants .entry))) r
+        ≡ poweredResult (mapOf map) (powerUpEnd primitives (mapOf map)) (lentOf (now (cells .entry)) (now (copy .entry)) (now (constants .entry))) ⌝ }
 {
     match first_failing(cells, constants, map) {
         Verdict::Failed(number) => dead(copy, Reason::DigestFailed, Answer::DigestFailed(number)),
-        Verdict::Passed => live(cells, copy, constants, map),
+        Verdict::Passed => after_digest_checks(cells, copy, constants, map),
     }
 }
 
@@ -243,10 +221,16 @@ pub fn power_up(
     map: MapName,
     session: Session,
 ) -> Outcome
-    ensures { λ r. ⌜ resultOf (now (cells .entry)) (now (copy .exit)) (now (constants .entry)) r ≡ resultFor (mapOf map) PowerUp (machineOf (now (cells .entry)) (now (copy .entry)) (now (constants .entry)) session) ⌝ }
+    ensures { λ r.
+        ⌜ Executes (mapOf map) PowerUp session (lentOf (now (cells .entry)) (now (copy .entry)) (now (constants .entry)))
+        (lentOf (now (cells .entry)) (now (copy .exit)) (now (constants .entry))) r ⌝ }
 {
-    match chip::judge(cells.len(), copy.len(), constants, map) {
+    let sizes = Sizes {
+        cells: cells.len(),
+        copy: copy.len(),
+    };
+    match chip::judge(sizes, constants, map) {
         Judged::Refused(answer) => Outcome { session, answer },
-        Judged::Accepted => woken(cells, copy, constants, map),
+        Judged::Accepted => after_judgement(cells, copy, constants, map),
     }
 }

@@ -5,8 +5,8 @@ use native.Mathlib.Omega.{arith}
 use lib.Bits.{bitXor, xor-lt}
 use lib.Dec.{lit<}
 use Rattle.basics.proofs.Bits.{xor-xor}
-use Rattle.present.specs.Present.{sBox, sBoxInverse, substitute, permute, permuteBack, roundKey, keyAfter}
-use Rattle.present.specs.Present.{stateAfter, encryptBlock, blockBefore, decryptBlock}
+use Rattle.present.specs.Present.{sBox, sBoxInverse, substitute, permute, permuteBack, roundKey, keyAfter, stateAfter, encryptBlock, blockBefore}
+use Rattle.present.specs.Present.{decryptBlock}
 use Rattle.present.proofs.Boxes.{sBox-lt, sBoxInverse-lt, sBox-back, sBox-forth, substitute-lt, substitute-back}
 use Rattle.present.proofs.Permutation.{permute-lt, permuteBack-lt, permute-back, permute-forth}
 use Rattle.present.proofs.KeyRegister.{roundKey-lt}
@@ -60,6 +60,13 @@ module _ (key : ℕ) (lk : key < 2 ^ 128) where
       let m : k < 2 ^ 64 = roundKey-lt key i lk (omega arith) in
       ap (forth k) (rounds-forth (back k state) i (back-lt k state m l) (omega arith)) ∙ forth-back k state m l
 
+  before-lt : (state i : ℕ) → state < 2 ^ 64 → i < 32 → blockBefore key state i < 2 ^ 64
+  unfolding blockBefore
+  before-lt state zero l h = l
+  before-lt state (suc i) l h =
+      let k = roundKey (keyAfter key i) in
+      before-lt (back k state) i (back-lt k state (roundKey-lt key i lk (omega arith)) l) (omega arith)
+
 -- ---- the laws
 
 abbrev lastKey : ℕ → ℕ
@@ -82,3 +89,7 @@ unfolding encryptBlock decryptBlock
 encrypt-decrypt key block lk lb =
     ap (λ (x : ℕ). bitXor x (lastKey key)) (rounds-forth key lk (bitXor block (lastKey key)) 31 (added-lt key block lk lb) (lit< tt))
     ∙ xor-xor block (lastKey key)
+
+pub decrypt-lt : (key block : ℕ) → key < 2 ^ 128 → block < 2 ^ 64 → decryptBlock key block < 2 ^ 64
+unfolding decryptBlock
+decrypt-lt key block lk lb = before-lt key lk (bitXor block (lastKey key)) 31 (added-lt key block lk lb) (lit< tt)

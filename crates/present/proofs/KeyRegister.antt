@@ -52,19 +52,19 @@ unfolding roundKey
 roundKey-halves a b l = high a 64 l
 
 -- a half of the rotated register: the lowest bits of one half above the highest of the other
-abbrev pub turned : ℕ → ℕ → ℕ
-turned a b = a % 2 ^ 3 * 2 ^ 61 + b / 2 ^ 3
+abbrev pub rotatedKey : ℕ → ℕ → ℕ
+rotatedKey a b = a % 2 ^ 3 * 2 ^ 61 + b / 2 ^ 3
 
-pub turned-lt : (a b : ℕ) → b < 2 ^ 64 → turned a b < 2 ^ 64
-turned-lt a b l = digits-lt {m = 2 ^ 3} (mod-lt a (lit< tt)) (shr-lt 61 3 l)
+pub rotated-key-lt : (a b : ℕ) → b < 2 ^ 64 → rotatedKey a b < 2 ^ 64
+rotated-key-lt a b l = digits-lt {m = 2 ^ 3} (mod-lt a (lit< tt)) (shr-lt 61 3 l)
 
-rotate-halves : (a b : ℕ) → b < 2 ^ 64 → rotateLeft61 (a * 2 ^ 64 + b) ≡ turned a b * 2 ^ 64 + turned b a
+rotate-halves : (a b : ℕ) → b < 2 ^ 64 → rotateLeft61 (a * 2 ^ 64 + b) ≡ rotatedKey a b * 2 ^ 64 + rotatedKey b a
 unfolding rotateLeft61
 rotate-halves a b l =
     let k : ℕ = a * 2 ^ 64 + b in
     let above : k / 2 ^ 67 ≡ a / 8 = sym (shr-shr k 64 3) ∙ ap (λ (x : ℕ). x / 8) (high a 64 l) in
-    let below : k % 2 ^ 67 ≡ turned a b * 8 + b % 8 = mod-pow-add k 3 64 ∙ ap₂ (λ (x y : ℕ). x % 8 * 2 ^ 64 + y) (high a 64 l) (low a 64 l) ∙ regroup a b in
-    ap₂ (λ (x y : ℕ). x * 2 ^ 61 + y) below above ∙ shift (turned a b) (b % 8) (a / 8)
+    let below : k % 2 ^ 67 ≡ rotatedKey a b * 8 + b % 8 = mod-pow-add k 3 64 ∙ ap₂ (λ (x y : ℕ). x % 8 * 2 ^ 64 + y) (high a 64 l) (low a 64 l) ∙ regroup a b in
+    ap₂ (λ (x y : ℕ). x * 2 ^ 61 + y) below above ∙ shift (rotatedKey a b) (b % 8) (a / 8)
   where
     regroup : (a b : ℕ) → a % 8 * 2 ^ 64 + b ≡ (a % 8 * 2 ^ 61 + b / 8) * 8 + b % 8
     regroup a b = omega arith
@@ -100,13 +100,13 @@ xor-halves round a b l =
     ap (bitXor (a * 2 ^ 64 + b)) e ∙ xor-block 64 a (round / 4) b (round * 2 ^ 62 % 2 ^ 64) l (mod-lt (round * 2 ^ 62) (pow-pos 64))
 
 pub keyStep-halves : (round a b : ℕ) → a < 2 ^ 64 → b < 2 ^ 64
-    → keyStep round (a * 2 ^ 64 + b) ≡ bitXor (topped (turned a b)) (round / 2 ^ 2) * 2 ^ 64 + bitXor (turned b a) (round * 2 ^ 62 % 2 ^ 64)
+    → keyStep round (a * 2 ^ 64 + b) ≡ bitXor (topped (rotatedKey a b)) (round / 2 ^ 2) * 2 ^ 64 + bitXor (rotatedKey b a) (round * 2 ^ 62 % 2 ^ 64)
 unfolding keyStep
 keyStep-halves round a b la lb =
-    let l : turned b a < 2 ^ 64 = turned-lt b a la in
+    let l : rotatedKey b a < 2 ^ 64 = rotated-key-lt b a la in
     ap (λ (x : ℕ). bitXor (substituteTop x) (round * 2 ^ 62)) (rotate-halves a b lb)
-    ∙ ap (λ (x : ℕ). bitXor x (round * 2 ^ 62)) (top-halves (turned a b) (turned b a) l)
-    ∙ xor-halves round (topped (turned a b)) (turned b a) l
+    ∙ ap (λ (x : ℕ). bitXor x (round * 2 ^ 62)) (top-halves (rotatedKey a b) (rotatedKey b a) l)
+    ∙ xor-halves round (topped (rotatedKey a b)) (rotatedKey b a) l
 
 -- ---- a loop that steps the register
 

@@ -1,4 +1,4 @@
-pub mod Turns
+pub mod Sums
 pub mod Boxes
 pub mod Permutation
 pub mod Lookups

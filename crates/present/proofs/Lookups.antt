@@ -12,7 +12,7 @@ use Rattle.basics.proofs.Range.{listed-at}
 use Rattle.basics.proofs.Digits.{digit-lt, number-lt}
 use Rattle.present.specs.Present.{sBox, sBoxInverse, substitute, permute, permuteBack}
 use Rattle.present.specs.Tables.{tableOf, lookups}
-use Rattle.present.proofs.Turns.{sixteen-power}
+use Rattle.present.proofs.Sums.{sixteen-power}
 use Rattle.present.proofs.Boxes.{sBox-lt, sBoxInverse-lt}
 use Rattle.present.proofs.Permutation.{permute-xor, permuteBack-xor}
 

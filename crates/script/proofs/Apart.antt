@@ -1,4 +1,4 @@
--- A reader taken apart, for the walks of its methods. The idea: the struct is Copy, so one copy of what it owns is kept for the exit; of the other the
+-- A reader taken apart, for the proofs of its methods. The idea: the struct is Copy, so one copy of what it owns is kept for the exit; of the other the
 -- slice's part and the number's facts go to a callee with the slice and the number.
 use mathlib.Core.Path.{_≡_, refl}
 use Prim.Native.Nat.{_<_, _^_}

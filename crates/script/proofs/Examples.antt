@@ -9,7 +9,7 @@ use Rattle.basics.specs.Range.{sum}
 use Rattle.model.specs.declared.Command.the-variants.{Read, Write, Transition, PowerUp}
 use Rattle.script.specs.declared.Refusal.the-variants.{UnknownKind, CutShort, TooLong}
 use Rattle.script.specs.declared.Reading.the-variants.{Record, End, Refused}
-use Rattle.script.specs.Records.{unknown, bodyLength, numberAt, commandAt, nextAt}
+use Rattle.script.specs.Records.{unknown, bodyLength, littleEndianAt, commandAt, nextAt}
 use Rattle.script.specs.Lines.{digitByte, digits, lineOf, decimal, endLine}
 use Rattle.script.proofs.Records.{IsRead, is-read, too-long, whole-record}
 
@@ -22,15 +22,15 @@ script =
     ++ (1 ∷ 0x28 ∷ 0x03 ∷ 0 ∷ 0 ∷ [])
 
 power-up : nextAt script 0 ≡ Record PowerUp 1
-unfolding nextAt unknown bodyLength commandAt numberAt sum if_then_else_
+unfolding nextAt unknown bodyLength commandAt littleEndianAt sum if_then_else_
 power-up = refl
 
 write : nextAt script 1 ≡ Record (Write 0 0x12345678) 14
-unfolding nextAt unknown bodyLength commandAt numberAt sum if_then_else_
+unfolding nextAt unknown bodyLength commandAt littleEndianAt sum if_then_else_
 write = refl
 
 read : nextAt script 19 ≡ Record (Read 0x328) 24
-unfolding nextAt unknown bodyLength commandAt numberAt sum if_then_else_
+unfolding nextAt unknown bodyLength commandAt littleEndianAt sum if_then_else_
 read = refl
 
 -- the last record ends with the script
@@ -38,22 +38,22 @@ last : IsRead script 19 (Read 0x328) 24
 last = is-read script 19 read
 
 end : nextAt script 24 ≡ End
-unfolding nextAt unknown bodyLength commandAt numberAt sum if_then_else_
+unfolding nextAt unknown bodyLength commandAt littleEndianAt sum if_then_else_
 end = refl
 
 -- a transition to DEV: the low half of the token is 0x0807060504030201, the high half 0x100F0E0D0C0B0A09
 transition : nextAt (6 ∷ 16 ∷ 1 ∷ 2 ∷ 3 ∷ 4 ∷ 5 ∷ 6 ∷ 7 ∷ 8 ∷ 9 ∷ 10 ∷ 11 ∷ 12 ∷ 13 ∷ 14 ∷ 15 ∷ 16 ∷ []) 0
     ≡ Record (Transition 16 0x100F0E0D0C0B0A09 0x0807060504030201) 18
-unfolding nextAt unknown bodyLength commandAt numberAt sum if_then_else_
+unfolding nextAt unknown bodyLength commandAt littleEndianAt sum if_then_else_
 transition = refl
 
 unknown-kind : nextAt (7 ∷ 8 ∷ []) 1 ≡ Refused UnknownKind 1
-unfolding nextAt unknown bodyLength commandAt numberAt sum if_then_else_
+unfolding nextAt unknown bodyLength commandAt littleEndianAt sum if_then_else_
 unknown-kind = refl
 
 -- one byte of its body is missing
 cut : nextAt (7 ∷ 5 ∷ []) 1 ≡ Refused CutShort 1
-unfolding nextAt unknown bodyLength commandAt numberAt sum if_then_else_
+unfolding nextAt unknown bodyLength commandAt littleEndianAt sum if_then_else_
 cut = refl
 
 -- a script of n power-ups, on either side of the limit

@@ -44,18 +44,18 @@ abbrev pub byteAt : List ℕ → ℕ → ℕ
 byteAt script at = getD script at 0
 
 -- "All numbers are little-endian": the number of the n bytes from `at` on, the lowest first
-unfoldable pub numberAt : List ℕ → ℕ → ℕ → ℕ
-numberAt script at n = number 256 n (λ i. byteAt script (at + i))
+unfoldable pub littleEndianAt : List ℕ → ℕ → ℕ → ℕ
+littleEndianAt script at n = number 256 n (λ i. byteAt script (at + i))
 
 -- the command of a known kind (7 where it is none of 1 to 6) whose body stands at `at`; the low half of a token comes first
 unfoldable pub commandAt : List ℕ → ℕ → ℕ → Command
 commandAt script kind at =
-    if eqb kind 1 then Read (numberAt script at 4)
-    else if eqb kind 2 then Write (numberAt script at 4) (numberAt script (at + 4) 8)
-    else if eqb kind 3 then FrontRead (numberAt script at 4)
-    else if eqb kind 4 then Digest (numberAt script at 4)
+    if eqb kind 1 then Read (littleEndianAt script at 4)
+    else if eqb kind 2 then Write (littleEndianAt script at 4) (littleEndianAt script (at + 4) 8)
+    else if eqb kind 3 then FrontRead (littleEndianAt script at 4)
+    else if eqb kind 4 then Digest (littleEndianAt script at 4)
     else if eqb kind 5 then ReadLock (byteAt script at)
-    else if eqb kind 6 then Transition (byteAt script at) (numberAt script (at + 9) 8) (numberAt script (at + 1) 8)
+    else if eqb kind 6 then Transition (byteAt script at) (littleEndianAt script (at + 9) 8) (littleEndianAt script (at + 1) 8)
     else PowerUp
 
 -- "0x11 unknown kind", "0x13 script record cut short", "0x14 script longer than 65,536 bytes"

@@ -3,7 +3,7 @@ use model::Command;
 ghost use mathlib.Core.Path.{_≡_};
 ghost use Prim.Native.Nat.{_+_, _≤_, _<_};
 ghost use lib.ListN.{length};
-ghost use Rattle.script.specs.Records.{kindOf, bodyLength, numberAt, commandAt, refusalCode, nextAt, placeAfter};
+ghost use Rattle.script.specs.Records.{kindOf, bodyLength, littleEndianAt, commandAt, refusalCode, nextAt, placeAfter};
 ghost use Rattle.script.specs.Reader.{readerNext, advancedReader};
 ghost use Rattle.script.specs.Lines.{digitByte, digits, lineOf, decimal, endLineOf};
 
@@ -98,7 +98,7 @@ fn wider(half: u32) -> u64
 // The number of the four bytes from `at` on.
 fn four_at(script: &[u8], at: usize) -> u32
     requires { ⌜ at + 4 ≤ length (now script) ⌝ }
-    ensures { λ r. ⌜ r ≡ numberAt (now (script .entry)) at 4 ⌝ }
+    ensures { λ r. ⌜ r ≡ littleEndianAt (now (script .entry)) at 4 ⌝ }
 {
     wide(script[at])
         + 256 * wide(script[at + 1])
@@ -109,7 +109,7 @@ fn four_at(script: &[u8], at: usize) -> u32
 // The number of the eight bytes from `at` on.
 fn eight_at(script: &[u8], at: usize) -> u64
     requires { ⌜ at + 8 ≤ length (now script) ⌝ }
-    ensures { λ r. ⌜ r ≡ numberAt (now (script .entry)) at 8 ⌝ }
+    ensures { λ r. ⌜ r ≡ littleEndianAt (now (script .entry)) at 8 ⌝ }
 {
     wider(four_at(script, at)) + 4294967296 * wider(four_at(script, at + 4))
 }
@@ -209,7 +209,7 @@ fn digit_byte(digit: u64) -> u8
     if d < 10 { b'0' + d } else { b'a' + (d - 10) }
 }
 
-// Writes the lowest digits of x over a part, the highest first, as many as it has room for.
+// Writes the lowest digits of x over a part, the highest first, as many as fit.
 fn put_digits(part: &mut [u8], base: u64, x: u64)
     requires { ⌜ (0 < base) × (base ≤ 16) ⌝ }
     ensures { λ _. ⌜ now (part .exit) ≡ digits base (length (now (part .entry))) x ⌝ }

@@ -16,8 +16,8 @@ use Rattle.keccak.specs.Permutation.{keccakF}
 use Rattle.keccak.proofs.Lengths.{length-keccakF}
 use Rattle.sponge.specs.declared.Sponge.{Sponge}
 use Rattle.sponge.specs.Sponge.{zeroState, added, absorbed}
-use Rattle.sponge.specs.Streaming.{spongeOf, fresh, withByte, turned, taken, takenAll}
-use Rattle.sponge.proofs.Turning.{turned-not, turned-full}
+use Rattle.sponge.specs.Streaming.{spongeOf, fresh, withByte, permutedIfFull, taken, takenAll}
+use Rattle.sponge.proofs.Permuting.{not-full, full-permuted}
 use Rattle.sponge.proofs.Taking.{takenAll-append}
 use Rattle.sponge.proofs.Bytes.{Bytes, bytes-none, bytes-drop, below-one, below-append}
 use Rattle.sponge.proofs.Lanes.{added-more}
@@ -63,7 +63,7 @@ module _ (m : List ℕ) (x n : ℕ) (low : 168 * n ≤ length m) (high : length 
   state-with-is : added (absorbed 168 longer n) (drop (168 * n) longer) ≡ state-with
   state-with-is = ap₂ added (absorbed-append m (x ∷ []) n low) (drop-append-le (168 * n) m (x ∷ []) low)
 
-  taken-byte : (s : Sponge) → Bytes m → x < 256 → turned s ≡ after m n → taken s x ≡ spongeOf state-with (length longer - 168 * n)
+  taken-byte : (s : Sponge) → Bytes m → x < 256 → permutedIfFull s ≡ after m n → taken s x ≡ spongeOf state-with (length longer - 168 * n)
   unfolding taken
   taken-byte s bytes small e =
       let size : length (drop (168 * n) m) ≡ length m - 168 * n = length-drop (168 * n) m in
@@ -74,12 +74,12 @@ module _ (m : List ℕ) (x n : ℕ) (low : 168 * n ≤ length m) (high : length 
       in
       ap (λ (t : Sponge). spongeOf (withByte (t .lanes) (t .at) x) (t .at + 1)) e ∙ ap₂ spongeOf lanes more
 
-  -- the block has room for another
-  room : length longer < 168 * n + 168 → turned (spongeOf state-with (length longer - 168 * n)) ≡ after longer n
-  room h = turned-not _ (omega arith) ∙ ap (λ (l : List ℕ). spongeOf l (length longer - 168 * n)) (sym state-with-is)
+  -- the block takes another byte
+  space : length longer < 168 * n + 168 → permutedIfFull (spongeOf state-with (length longer - 168 * n)) ≡ after longer n
+  space h = not-full _ (omega arith) ∙ ap (λ (l : List ℕ). spongeOf l (length longer - 168 * n)) (sym state-with-is)
 
   -- the block is full
-  full : length longer ≡ 168 * n + 168 → turned (spongeOf state-with (length longer - 168 * n)) ≡ after longer (suc n)
+  full : length longer ≡ 168 * n + 168 → permutedIfFull (spongeOf state-with (length longer - 168 * n)) ≡ after longer (suc n)
   full h =
       let none : drop (168 * suc n) longer ≡ [] = drop-of-length-le longer {i = 168 * suc n} (omega arith) in
       let zero-left : 0 ≡ length longer - 168 * suc n = omega arith in
@@ -89,22 +89,22 @@ module _ (m : List ℕ) (x n : ℕ) (low : 168 * n ≤ length m) (high : length 
       ∙ sym (added-none (absorbed 168 longer (suc n)) (ap length (sym state) ∙ length-keccakF state-with))
       ∙ ap (added (absorbed 168 longer (suc n))) (sym none)
       in
-      turned-full _ (omega arith) ∙ ap₂ spongeOf lanes zero-left
+      full-permuted _ (omega arith) ∙ ap₂ spongeOf lanes zero-left
 
 -- what has come of a message, with a full block permuted
 abbrev Stands : List ℕ → Type 0
-Stands m = turned (takenAll fresh m) ≡ after m (length m / 168)
+Stands m = permutedIfFull (takenAll fresh m) ≡ after m (length m / 168)
 
 stands-none : Stands []
 unfolding takenAll absorbed zeroState
-stands-none = turned-not fresh (lit< tt) ∙ ap (λ (l : List ℕ). spongeOf l 0) (sym (added-none zeroState (length-listed (λ k. 0) 0 25)))
+stands-none = not-full fresh (lit< tt) ∙ ap (λ (l : List ℕ). spongeOf l 0) (sym (added-none zeroState (length-listed (λ k. 0) 0 25)))
 
 stands-more : (m : List ℕ) (x : ℕ) → Bytes m → x < 256 → Stands m → Stands (m ++ x ∷ [])
 unfolding takenAll
 stands-more m x bytes small e =
-    ap turned (takenAll-append fresh m (x ∷ []) ∙ taken-byte m x n low high (takenAll fresh m) bytes small e)
+    ap permutedIfFull (takenAll-append fresh m (x ∷ []) ∙ taken-byte m x n low high (takenAll fresh m) bytes small e)
     ∙ by-cases (ltb (length (m ++ x ∷ [])) (168 * n + 168))
-    (λ t. room m x n low high (ltb-true _ _ t) ∙ ap (after (m ++ x ∷ [])) (omega (arith, size, ltb-true)))
+    (λ t. space m x n low high (ltb-true _ _ t) ∙ ap (after (m ++ x ∷ [])) (omega (arith, size, ltb-true)))
     (λ t. full m x n low high (omega (arith, size, ltb-false)) ∙ ap (after (m ++ x ∷ [])) (omega (arith, size, ltb-false)))
   where
     n : ℕ
@@ -125,5 +125,5 @@ stands-append xs (y ∷ ys) b c e =
     subst Stands (append-snoc xs y ys)
     (stands-append (xs ++ y ∷ []) ys (below-append 256 xs (y ∷ []) b (below-one (c 0))) (λ i. c (suc i)) (stands-more xs y b (c 0) e))
 
-pub stands : (m : List ℕ) → Bytes m → turned (takenAll fresh m) ≡ after m (length m / 168)
+pub stands : (m : List ℕ) → Bytes m → permutedIfFull (takenAll fresh m) ≡ after m (length m / 168)
 stands m bytes = stands-append [] m bytes-none bytes stands-none

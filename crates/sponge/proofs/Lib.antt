@@ -1,4 +1,4 @@
-pub mod Turning
+pub mod Permuting
 pub mod Taking
 pub mod Shifting
 pub mod Xor

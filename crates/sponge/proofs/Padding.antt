@@ -136,7 +136,7 @@ module _ (rate n : ℕ) (domain : List ℕ) (pos : 0 < rate) (short : length dom
       let x : ℕ = 8 * rate in
       let rest : ℕ = 8 * (n % rate) + (length domain + 2) in
       let whole : 8 * n + length domain + 2 ≡ x * (n / rate) + rest = omega (arith, div-add-mod n rate, mul-assoc 8 rate (n / rate)) in
-      let room : rest ≤ x = omega (arith, mod-lt n pos) in
+      let space : rest ≤ x = omega (arith, mod-lt n pos) in
       ap (λ (y : ℕ). (x - y % x) % x) whole
       ∙ ap (λ (y : ℕ). (x - y) % x) (mul-add-mod-self-left x (n / rate) rest)
       ∙ by-cases (ltb rest x)

@@ -15,8 +15,8 @@ use Rattle.basics.proofs.Choice.{if-false}
 use Rattle.keccak.specs.Permutation.{keccakF}
 use Rattle.sponge.specs.declared.Sponge.{Sponge}
 use Rattle.sponge.specs.Sponge.{padding, added, absorbed, squeezed, sponge}
-use Rattle.sponge.specs.Streaming.{spongeOf, fresh, withByte, turned, taken, takenAll, filled, finished}
-use Rattle.sponge.proofs.Turning.{turned-not, turned-at}
+use Rattle.sponge.specs.Streaming.{spongeOf, fresh, withByte, permutedIfFull, taken, takenAll, filled, finished}
+use Rattle.sponge.proofs.Permuting.{not-full, place-after}
 use Rattle.sponge.proofs.Bytes.{bytes-drop}
 use Rattle.sponge.proofs.Blocks.{absorbed-append, absorbed-last, stands}
 use Rattle.sponge.proofs.LastBlock.{length-padding, last-block}
@@ -35,7 +35,7 @@ unfolding takenAll listed taken
 take-zeros zero i s h = ap (spongeOf (s .lanes)) (sym (add-zero (s .at)))
 take-zeros (suc n) i s h =
     let t : taken s 0 ≡ spongeOf (s .lanes) (s .at + 1) =
-    ap (λ (u : Sponge). spongeOf (withByte (u .lanes) (u .at) 0) (u .at + 1)) (turned-not s (omega arith))
+    ap (λ (u : Sponge). spongeOf (withByte (u .lanes) (u .at) 0) (u .at + 1)) (not-full s (omega arith))
     ∙ ap (λ (l : List ℕ). spongeOf l (s .at + 1)) (with-zero (s .lanes) (s .at))
     in
     let at : s .at + 1 + n ≡ s .at + suc n = omega arith in
@@ -48,7 +48,7 @@ taken-at : (z : List ℕ) (s : Sponge) → s .at ≤ 168 → 0 < s .at + length 
 unfolding takenAll taken
 taken-at [] s h p = omega arith
 taken-at (y ∷ ys) s h p =
-    let e : turned s .at ≡ s .at % 168 = turned-at s h in
+    let e : permutedIfFull s .at ≡ s .at % 168 = place-after s h in
     taken-at ys (taken s y) (omega arith) (omega arith) ∙ omega arith
 
 pub filled-is : (z : List ℕ) → 0 < length z → filled (takenAll fresh z) ≡ takenAll fresh (z ++ listed (λ i. 0) 0 ((168 - length z % 168) % 168))

@@ -26,12 +26,12 @@ unfoldable pub withByte : List ℕ → ℕ → ℕ → List ℕ
 withByte lanes i byte = set lanes (i / 8) (bitXor (getD lanes (i / 8) 0) (byte * 256 ^ (i % 8)))
 
 -- a full block permuted
-unfoldable pub turned : Sponge → Sponge
-turned s = if leb rate (s .at) then spongeOf (keccakF (s .lanes)) 0 else s
+unfoldable pub permutedIfFull : Sponge → Sponge
+permutedIfFull s = if leb rate (s .at) then spongeOf (keccakF (s .lanes)) 0 else s
 
 -- one byte more
 unfoldable pub taken : Sponge → ℕ → Sponge
-taken s byte = spongeOf (withByte (turned s .lanes) (turned s .at) byte) (turned s .at + 1)
+taken s byte = spongeOf (withByte (permutedIfFull s .lanes) (permutedIfFull s .at) byte) (permutedIfFull s .at + 1)
 
 unfoldable pub takenAll : Sponge → List ℕ → Sponge
 takenAll s [] = s
@@ -43,4 +43,4 @@ filled s = if eqb (s .at) 0 then s else spongeOf (s .lanes) rate
 
 -- the padding and the last permutation: the state to squeeze
 unfoldable pub finished : Sponge → ℕ → List ℕ
-finished s suffix = keccakF (withByte (withByte (turned s .lanes) (turned s .at) suffix) 167 0x80)
+finished s suffix = keccakF (withByte (withByte (permutedIfFull s .lanes) (permutedIfFull s .at) suffix) 167 0x80)

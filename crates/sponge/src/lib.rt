@@ -3,7 +3,7 @@ ghost use mathlib.Core.Path.{_≡_};
 ghost use Prim.Native.Nat.{_<_};
 ghost use lib.ListN.{length};
 ghost use Rattle.sponge.specs.Sponge.{byteAt, squeezed};
-ghost use Rattle.sponge.specs.Streaming.{rate, spongeOf, fresh, withByte, turned, taken, takenAll, filled, finished};
+ghost use Rattle.sponge.specs.Streaming.{rate, spongeOf, fresh, withByte, permutedIfFull, taken, takenAll, filled, finished};
 
 const RATE: usize = 168;
 
@@ -28,8 +28,8 @@ fn add_byte(lanes: &mut [u64; 25], i: usize, byte: u8)
 }
 
 // Permutes the lanes of a full block. The place of the next byte.
-fn turn(lanes: &mut [u64; 25], at: usize) -> usize
-    ensures { λ r. ⌜ spongeOf (now (lanes .exit)) r ≡ turned (spongeOf (now (lanes .entry)) at) ⌝ }
+fn permute_if_full(lanes: &mut [u64; 25], at: usize) -> usize
+    ensures { λ r. ⌜ spongeOf (now (lanes .exit)) r ≡ permutedIfFull (spongeOf (now (lanes .entry)) at) ⌝ }
 {
     if at < RATE {
         return at;
@@ -43,7 +43,7 @@ fn turn(lanes: &mut [u64; 25], at: usize) -> usize
 fn take_byte(lanes: &mut [u64; 25], at: usize, byte: u8) -> usize
     ensures { λ r. ⌜ spongeOf (now (lanes .exit)) r ≡ taken (spongeOf (now (lanes .entry)) at) byte ⌝ }
 {
-    let place = turn(lanes, at);
+    let place = permute_if_full(lanes, at);
     add_byte(lanes, place, byte);
     place + 1
 }
@@ -96,7 +96,7 @@ impl Sponge {
         ensures { λ r. ⌜ r ≡ finished self suffix ⌝ }
     {
         let mut lanes = self.lanes;
-        let place = turn(&mut lanes, self.at);
+        let place = permute_if_full(&mut lanes, self.at);
         add_byte(&mut lanes, place, suffix);
         add_byte(&mut lanes, RATE - 1, 0x80);
         keccak::permuted(lanes)

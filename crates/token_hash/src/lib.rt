@@ -1,15 +1,10 @@
 // The hash of a life cycle token.
+use words::Halves;
 ghost use mathlib.Core.Path.{_≡_};
 ghost use Prim.Native.Nat.{_+_, _*_, _^_, _≤_, _<_};
 ghost use lib.ListN.{getD};
 ghost use Rattle.basics.specs.Digits.{number};
 ghost use Rattle.token_hash.specs.TokenHash.{bytesOf, tokenHash};
-
-// A number of 128 bits by its high and its low 64 bits.
-pub struct Hash {
-    pub high: u64,
-    pub low: u64,
-}
 
 fn wide(x: u8) -> u64
     ensures { λ r. ⌜ (r ≡ x) × (r < 256) ⌝ }
@@ -44,13 +39,13 @@ fn half_at(bytes: &[u8; 16], at: usize) -> u64
 }
 
 // The hash of a token, both by their high and their low 64 bits.
-pub fn hash_of(high: u64, low: u64) -> Hash
+pub fn hash_of(high: u64, low: u64) -> Halves
     ensures { λ r. ⌜ r .high * 2 ^ 64 + r .low ≡ tokenHash («high» * 2 ^ 64 + «low») ⌝ }
 {
     let token = bytes_of(high, low);
     let mut out = [0u8; 16];
     cshake::cshake128(b"", b"LC_CTRL", &token, &mut out);
-    Hash {
+    Halves {
         high: half_at(&out, 8),
         low: half_at(&out, 0),
     }

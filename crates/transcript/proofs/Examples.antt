@@ -1,36 +1,38 @@
 -- Computed examples beside the theorem: what scripts print, and two images that meet its premises.
-use Prim.Native.Nat.{ℕ, zero, suc, _<_}
+use Prim.Native.Nat.{ℕ, zero, suc, _≤_}
 use mathlib.Core.Path.{_≡_, refl, sym, ap, subst, _∙_}
 use mathlib.Core.Bool.{Bool, false}
 use mathlib.Core.List.{List, [], _∷_, _++_}
 use mathlib.Core.Option.{some}
 use native.Mathlib.Omega.{arith}
-use lib.Dec.{eqb, ltb, lit<}
-use lib.ListN.{getD, set, drop, replicate, List·getD-eq-default}
+use lib.Dec.{T, eqb, ltb, lit<, lit≤}
+use lib.ListN.{length, getD, set, replicate, List·getD-eq-default}
 use lib.Seq.{getD-set-other}
 use borrow.Author.Tests.{eqb-true, eqb-false, ltb-true, ltb-false}
 use Rattle.basics.specs.Choice.{if_then_else_}
-use Rattle.basics.specs.Range.{sum}
+use Rattle.basics.specs.Range.{sum, allBelow, firstNot}
 use Rattle.basics.proofs.Choice.{by-cases}
 use Rattle.basics.proofs.Range.{all-at}
 use Rattle.present.specs.Present.{sBox, substitute, place, permute, roundKey, rotateLeft61, substituteTop, keyStep, keyAfter, stateAfter, encryptBlock}
 use Rattle.digest.specs.Digest.{absorb, absorbAll, digestOf, blocksOf, digestWords}
 use Rattle.partitions.specs.Map2.{map2}
+use Rattle.partitions.specs.Map.{partition}
 use Rattle.partitions.specs.Maps.{mapOf}
-use Rattle.model.specs.PowerUp.{firstFailing, verdictOf}
+use Rattle.model.specs.PowerUp.{digestHolds, verdictOf}
 use Rattle.model.specs.Claims.Terms.{Matched, HiddenWord, Alike}
 use Rattle.model.proofs.Everything.{everything}
 use Rattle.chip.specs.Chip.{primitives}
-use Rattle.script.specs.Records.{unknown, bodyLength, numberAt, commandAt, nextAt}
+use Rattle.script.specs.Records.{unknown, bodyLength, littleEndianAt, commandAt, nextAt}
 use Rattle.script.specs.Lines.{digitByte, digits, lineOf, decimal, endLine}
 use Rattle.transcript.specs.Files.{pairs, fileWords}
 use Rattle.transcript.specs.Transcript.{refusedKind, mapFor, mapUsed, chipOf, linesFrom, linesOf, printed, transcript}
-use Rattle.transcript.specs.Printed.{commandsFrom, refusalFrom, commandsOf, linesFor, linesWhole, TwoChips}
+use Rattle.transcript.specs.Printed.{commandsFrom, refusalFrom, commandsOf, linesFor, linesWhole, Bytes, TwoChips}
 use Rattle.transcript.proofs.Printed.{what-is-printed}
 
 -- the model, the reader and the lines, under one name
 unfoldable all : Unit {0}
-unfolding everything sum map2 mapOf mapFor pairs fileWords unknown bodyLength numberAt commandAt nextAt refusedKind linesFrom linesOf digitByte digits lineOf decimal endLine printed transcript commandsFrom refusalFrom linesFor
+unfolding everything sum map2 mapOf mapFor pairs fileWords unknown bodyLength littleEndianAt commandAt nextAt refusedKind linesFrom linesOf digitByte digits
+    lineOf decimal endLine printed transcript commandsFrom refusalFrom linesFor
 all = tt
 
 -- n words below 256, as bytes
@@ -91,29 +93,44 @@ alike = record { at = word }
         (λ t. absurd (h (subst (HiddenWord (mapUsed (image 0)) (fileWords (image 0)) (fileWords (image 5))) (sym (eqb-true j 588 t)) hidden)))
         (λ t. rw one-word (sym (getD-set-other (fileWords (image 0)) 588 j 5 0 (eqb-false j 588 t))))
 
-constant-bytes : (i : ℕ) → getD constants i 0 < 256
+-- bytes, by one test for each entry
+bytes-by : (file : List ℕ) (n : ℕ) → length file ≤ n → T (allBelow n (λ j. ltb (getD file j 0) 256)) → Bytes file
+bytes-by file n l e i =
+    by-cases (ltb i n) (λ t. ltb-true _ _ (all-at n (λ j. ltb (getD file j 0) 256) e i (ltb-true _ _ t)))
+    (λ t. rw (List·getD-eq-default file 0 {n = i} (omega (arith, ltb-false i n t))) (lit< tt))
+
+constant-bytes : Bytes constants
 unfolding all words constants
-constant-bytes i =
-    by-cases (ltb i 264) (λ t. ltb-true _ _ (all-at 264 (λ j. ltb (getD constants j 0) 256) tt i (ltb-true _ _ t)))
-    (λ t. rw (List·getD-eq-default constants 0 {n = i} (ltb-false _ _ t)) (lit< tt))
+constant-bytes = bytes-by constants 264 (lit≤ tt) tt
+
+image-bytes : Bytes (image 0)
+unfolding all image
+image-bytes = bytes-by (image 0) 1480 (lit≤ tt) tt
+
+other-bytes : Bytes (image 5)
+unfolding all image
+other-bytes = bytes-by (image 5) 1480 (lit≤ tt) tt
 
 two-chips : TwoChips (image 0) (image 5) constants
 two-chips = record {
   sameLength = unfold image in refl;
   lengths = unfold all words constants image in refl;
   valid = unfold all words constants in refl;
-  bytes = constant-bytes;
+  bytes = (image-bytes, other-bytes, constant-bytes);
   alike = alike;
 }
 
 -- 1 is not the digest of a blank HW_CFG1, so that its check fails on both
 other-digest : eqb 1 (digestWords 0 0 (0 ∷ 0 ∷ 0 ∷ 0 ∷ [])) ≡ false
-unfolding everything sum sBox substitute place permute roundKey rotateLeft61 substituteTop keyStep keyAfter stateAfter encryptBlock absorb absorbAll digestOf blocksOf digestWords
+unfolding everything sum sBox substitute place permute roundKey rotateLeft61 substituteTop keyStep keyAfter stateAfter encryptBlock absorb absorbAll digestOf
+    blocksOf digestWords
 other-digest = refl
 
 verdict : (x : ℕ) → verdictOf primitives map2 (chipOf (image x) constants .lent) ≡ some 6
 unfolding all words constants image
-verdict x = ap (λ (holds : Bool). if holds then firstFailing primitives (fileWords constants) (fileWords (image x)) 7 (drop 7 map2) else some 6) other-digest
+verdict x =
+    ap (λ (holds : Bool). if holds then firstNot
+    (λ n. digestHolds primitives (fileWords constants) (fileWords (image x)) (partition map2 n)) 7 4 else some 6) other-digest
 
 matched : Matched primitives (mapUsed (image 0)) (commandsOf (7 ∷ [])) (chipOf (image 0) constants) (chipOf (image 5) constants)
 unfolding all Matched words constants image

@@ -54,29 +54,29 @@ words-small bytes h i = if-both (λ (ws : List ℕ). getD ws i 0 < 65536) _ _ _ 
 
 -- ---- which words a file lends
 
-module _ (room : ℕ) (bytes : List ℕ) where
-  pub lent-odd : eqb (length bytes % 2) 0 ≡ false → lentWords room bytes ≡ []
+module _ (space : ℕ) (bytes : List ℕ) where
+  pub lent-odd : eqb (length bytes % 2) 0 ≡ false → lentWords space bytes ≡ []
   unfolding lentWords fileWords
-  lent-odd h = rw (if-false (pairs bytes) [] h) (if-both (λ (ws : List ℕ). ws ≡ []) (leb 0 room) [] [] (λ _. refl) (λ _. refl))
+  lent-odd h = rw (if-false (pairs bytes) [] h) (if-both (λ (ws : List ℕ). ws ≡ []) (leb 0 space) [] [] (λ _. refl) (λ _. refl))
 
   module _ (even : eqb (length bytes % 2) 0 ≡ true) where
     file-even : fileWords bytes ≡ pairs bytes
     unfolding fileWords
     file-even = if-true _ _ even
 
-    pub lent-long : room < length bytes / 2 → lentWords room bytes ≡ []
+    pub lent-long : space < length bytes / 2 → lentWords space bytes ≡ []
     unfolding lentWords
-    lent-long h = rw file-even (if-false _ _ (lt-leb (length (pairs bytes)) room (omega (arith, pairs-length bytes))))
+    lent-long h = rw file-even (if-false _ _ (lt-leb (length (pairs bytes)) space (omega (arith, pairs-length bytes))))
 
-    pub lent-fits : length bytes / 2 ≤ room → lentWords room bytes ≡ pairs bytes
+    pub lent-fits : length bytes / 2 ≤ space → lentWords space bytes ≡ pairs bytes
     unfolding lentWords
-    lent-fits h = rw file-even (if-true _ _ (le-leb (length (pairs bytes)) room (omega (arith, pairs-length bytes))))
+    lent-fits h = rw file-even (if-true _ _ (le-leb (length (pairs bytes)) space (omega (arith, pairs-length bytes))))
 
 -- ---- what `file_words` ends with
 
 -- the words after a file was lent
 abbrev Lent : ℕ → List ℕ → ℕ → List ℕ → List ℕ → Type 0
-Lent room bytes n old new = (n ≡ length (lentWords room bytes)) × (new ≡ lentWords room bytes ++ drop n old)
+Lent space bytes n old new = (n ≡ length (lentWords space bytes)) × (new ≡ lentWords space bytes ++ drop n old)
 
-pub none-lent : (room : ℕ) (bytes words : List ℕ) → lentWords room bytes ≡ [] → Lent room bytes 0 words words
-none-lent room bytes words e = rw e (refl, refl)
+pub none-lent : (space : ℕ) (bytes words : List ℕ) → lentWords space bytes ≡ [] → Lent space bytes 0 words words
+none-lent space bytes words e = rw e (refl, refl)

@@ -1,5 +1,5 @@
 pub mod Files
-pub mod Turns
+pub mod Runs
 pub mod Budget
 pub mod Transcript
 pub mod Counting

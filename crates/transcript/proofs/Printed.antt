@@ -13,9 +13,9 @@ use Rattle.model.specs.declared.Command.{Command}
 use Rattle.model.specs.declared.Command.the-variants.{Read, Write, FrontRead, Digest, ReadLock, Transition, PowerUp}
 use Rattle.model.specs.Lent.{rightLengths}
 use Rattle.model.specs.Step.{answers}
-use Rattle.model.specs.Claims.Terms.{Right, Matched}
+use Rattle.model.specs.Claims.Terms.{ValidInputs, Matched}
 use Rattle.chip.specs.Chip.{primitives}
-use Rattle.controller.proofs.Theorems.{chip-claims}
+use Rattle.chip.proofs.Theorems.{chip-claims}
 use Rattle.script.specs.declared.Reading.{Reading}
 use Rattle.script.specs.declared.Reading.the-variants.{Record, End, Refused}
 use Rattle.script.specs.Records.{kindOf, byteAt, nextAt}
@@ -59,15 +59,14 @@ module _ (script image other constants : List ℕ) (two : TwoChips image other c
   unfolding mapFor
   same-map = rw (two .sameLength)
 
-  right : Right (mapUsed image) (chipOf image constants)
-  right = record { lengths = two .lengths; valid = two .valid; words = words-small constants (two .bytes) }
+  right : ValidInputs (mapUsed image) (chipOf image constants)
+  right = record { lengths = two .lengths; valid = two .valid; words = words-small constants (two .bytes .2); fuses = words-small image (two .bytes .0) }
 
   other-lengths : rightLengths (mapUsed image) (chipOf other constants .lent) ≡ true
-  unfolding rightLengths
   other-lengths = rw (same-map, words-as-many other image (sym (two .sameLength))) (two .lengths)
 
-  right-other : Right (mapUsed image) (chipOf other constants)
-  right-other = record { lengths = other-lengths; valid = two .valid; words = words-small constants (two .bytes) }
+  right-other : ValidInputs (mapUsed image) (chipOf other constants)
+  right-other = record { lengths = other-lengths; valid = two .valid; words = words-small constants (two .bytes .2); fuses = words-small other (two .bytes .1) }
 
   -- both chips answer alike over the map of the first, which is that of the other too
   abbrev Same : List Command → Type 0

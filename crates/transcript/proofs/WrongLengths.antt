@@ -16,9 +16,10 @@ use Rattle.partitions.specs.Map2.{map2}
 use Rattle.partitions.specs.Maps.{mapOf}
 use Rattle.model.specs.declared.Answer.the-variants.{WrongLength}
 use Rattle.model.specs.declared.Command.{Command}
-use Rattle.model.specs.Lent.{Machine, rightLengths}
-use Rattle.model.specs.Step.{Step, unchanged, step, answers, machineAfter, answerTo}
+use Rattle.model.specs.Lent.{rightSizes, Machine, rightLengths}
+use Rattle.model.specs.Step.{judgement, answers, machineAfter, answerTo}
 use Rattle.chip.specs.Chip.{primitives, resultFor}
+use Rattle.chip.proofs.Acting.{refused-result}
 use Rattle.script.specs.Records.{kindOf}
 use Rattle.script.specs.Lines.{lineOf, endLine}
 use Rattle.script.proofs.Records.{too-long}
@@ -45,28 +46,29 @@ bytes-from bytes n some =
 
 first-map : (image constants : List ℕ) → length image ≡ 896 → length constants ≡ 264
     → (mapUsed image ≡ map1) × (rightLengths (mapUsed image) (chipOf image constants .lent) ≡ true)
-unfolding rightLengths mapFor mapOf limit map1
+unfolding rightSizes mapFor mapOf limit map1
 first-map image constants h k =
     rw (if-false Map2 Map1 (ne-eqb (length image) 1480 (λ e. omega (arith, h, e))), words-from image 448 h, words-from constants 132 k) (refl, refl)
 
 second-map : (image constants : List ℕ) → length image ≡ 1480 → length constants ≡ 264
     → (mapUsed image ≡ map2) × (rightLengths (mapUsed image) (chipOf image constants .lent) ≡ true)
-unfolding rightLengths mapFor mapOf limit map2
+unfolding rightSizes mapFor mapOf limit map2
 second-map image constants h k = rw (if-true Map2 Map1 (eq-eqb (length image) 1480 h), words-from image 740 h, words-from constants 132 k) (refl, refl)
 
 images-wrong : (image constants : List ℕ) → (length image ≡ 896 → ⊥) → (length image ≡ 1480 → ⊥) → Wrong image constants
-unfolding rightLengths mapFor mapOf limit map1
+unfolding rightSizes mapFor mapOf limit map1
 images-wrong image constants h k =
     rw (if-false Map2 Map1 (ne-eqb (length image) 1480 k), ne-eqb (length (fileWords image)) 448 (λ e. h (bytes-from image 448 (lit< tt) e)))
 
 constants-wrong : (image constants : List ℕ) → (length constants ≡ 264 → ⊥) → Wrong image constants
-unfolding rightLengths
+unfolding rightSizes
 constants-wrong image constants h = rw (ne-eqb (length (fileWords constants)) 132 (λ e. h (bytes-from constants 132 (lit< tt) e)))
-    (and-false (eqb (length (chipOf image constants .lent .cells)) (limit (mapUsed image) / 2) && eqb (length (chipOf image constants .lent .copy)) (limit (mapUsed image) / 2)) refl)
+    (and-false (eqb (length (chipOf image constants .lent .cells)) (limit (mapUsed image) / 2)
+    && eqb (length (chipOf image constants .lent .copy)) (limit (mapUsed image) / 2)) refl)
 
 step-wrong : (map : Map) (x : Command) (m : Machine) → rightLengths map (m .lent) ≡ false → resultFor map x m ≡ record { machine = m; answer = WrongLength }
-unfolding step unchanged
-step-wrong map x m e = ap (λ (s : Step). s .result) (if-true (unchanged WrongLength m) _ (ap not e))
+unfolding judgement
+step-wrong map x m e = sym (refused-result map x m WrongLength (if-true _ _ (ap not e)))
 
 answers-wrong : (map : Map) (m : Machine) → rightLengths map (m .lent) ≡ false → (l : List Command) → linesFor l (answers primitives map l m) ≡ wrongLines l
 unfolding linesFor answers wrongLines

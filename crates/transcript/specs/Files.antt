@@ -15,6 +15,6 @@ pairs (low ∷ high ∷ bytes) = (low + 256 * high) ∷ pairs bytes
 unfoldable pub fileWords : List ℕ → List ℕ
 fileWords bytes = if eqb (length bytes % 2) 0 then pairs bytes else []
 
--- a file lent in a room of words: one that has more counts as empty too
+-- a file lent in an array of words: one that has more counts as empty too
 unfoldable pub lentWords : ℕ → List ℕ → List ℕ
-lentWords room bytes = if leb (length (fileWords bytes)) room then fileWords bytes else []
+lentWords space bytes = if leb (length (fileWords bytes)) space then fileWords bytes else []

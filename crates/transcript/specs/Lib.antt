@@ -1,5 +1,5 @@
 pub mod Files
 pub mod Transcript
-pub mod Turns
+pub mod Runs
 pub mod Printed
 pub mod WrongLengths

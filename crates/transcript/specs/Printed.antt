@@ -4,7 +4,7 @@ use mathlib.Core.Path.{_≡_}
 use mathlib.Core.Bool.{true}
 use mathlib.Core.List.{List, [], _∷_, _++_}
 use lib.ListN.{length, getD}
-use Rattle.life_cycle.specs.Constants.{validConstants}
+use Rattle.constants.specs.Constants.{validConstants}
 use Rattle.model.specs.declared.Answer.{Answer}
 use Rattle.model.specs.declared.Command.{Command}
 use Rattle.model.specs.Answers.{codeOf, valueOf}
@@ -55,13 +55,17 @@ linesFor (x ∷ xs) (answer ∷ answers) = record { kind = kindOf x; code = code
 abbrev pub linesWhole : List ℕ → List ℕ → List ℕ → List Line
 linesWhole script image constants = linesFor (commandsOf script) (answersOf script image constants) ++ refusalOf script
 
--- the two chips of demand 3 as files: two images of one length, which is right, as is that of the constants; these are valid, and bytes; and the fuses
+-- a file is bytes
+abbrev pub Bytes : List ℕ → Type 0
+Bytes file = (i : ℕ) → getD file i 0 < 256
+
+-- the two chips of demand 3 as files: two images of one length, which is right, as is that of the constants; these are valid; and the fuses
 -- differ "only in data words of secret partitions with the same nonzero stored digests"
 pub record TwoChips (image other constants : List ℕ) : Type 0 where
   pub sameLength : length image ≡ length other
   pub lengths : rightLengths (mapUsed image) (chipOf image constants .lent) ≡ true
   pub valid : validConstants (fileWords constants) ≡ true
-  pub bytes : (i : ℕ) → getD constants i 0 < 256
+  pub bytes : Bytes image × Bytes other × Bytes constants
   pub alike : Alike (mapUsed image) (fileWords image) (fileWords other) (fileWords image) (fileWords other)
 
 pub record Printed : Type 0 where

@@ -11,7 +11,7 @@ use Rattle.partitions.specs.Maps.{mapOf}
 use Rattle.model.specs.Answers.{codeOf, valueOf}
 use Rattle.model.specs.Session.{freshSession}
 use Rattle.model.specs.Lent.{Machine}
-use Rattle.chip.specs.Chip.{machineOf, resultFor}
+use Rattle.chip.specs.Chip.{lentOf, machineOf, resultFor}
 use Rattle.script.specs.declared.Reading.the-variants.{Record, End, Refused}
 use Rattle.script.specs.declared.Refusal.{Refusal}
 use Rattle.script.specs.declared.Refusal.the-variants.{UnknownKind, CutShort, TooLong}
@@ -54,7 +54,7 @@ mapUsed image = mapOf (mapFor image)
 -- "The program runs standard input, from a fresh record, over fixed-name image and constants files". No file gives the sensed copy: it starts as zeros, as
 -- many as the map has words.
 abbrev pub chipOf : List ℕ → List ℕ → Machine
-chipOf image constants = machineOf (fileWords image) (replicate (limit (mapUsed image) / 2) 0) (fileWords constants) freshSession
+chipOf image constants = machineOf (lentOf (fileWords image) (replicate (limit (mapUsed image) / 2) 0) (fileWords constants)) freshSession
 
 -- a record has a byte at least, so a script has no more records than bytes
 unfoldable pub linesOf : List ℕ → List ℕ → List ℕ → List Line

@@ -1,4 +1,4 @@
-// A rehearsal in turns: each reads the next record of a script, executes it and makes its line. And the files of words.
+// A rehearsal, record by record: the next record of a script is read and executed, and its line made. And the files of words.
 
 use model::Session;
 use partitions::MapName;
@@ -10,23 +10,23 @@ ghost use mathlib.Core.List.{List, _++_};
 ghost use Prim.Native.Nat.{ℕ, _+_, _*_};
 ghost use lib.ListN.{length, drop};
 ghost use Rattle.partitions.specs.Maps.{mapOf};
-ghost use Rattle.chip.specs.Chip.{machineOf};
+ghost use Rattle.chip.specs.Chip.{lentOf, machineOf};
 ghost use Rattle.script.specs.Records.{byteAt};
 ghost use Rattle.transcript.specs.Files.{lentWords};
 ghost use Rattle.transcript.specs.Transcript.{refusedKind, mapFor, linesOf};
-ghost use Rattle.transcript.specs.Turns.{endedAt, refusedAt, stoppedOf, turnOf, turnWith};
+ghost use Rattle.transcript.specs.Runs.{endedAt, refusedAt, stoppedOf, runOf, runWith};
 
 // How a rehearsal goes on: with a line and more to come, with a last line, or with the script's end and no line.
-pub enum Course {
-    Goes,
+pub enum Continuation {
+    Continues,
     Stops,
     Ends,
 }
 
-// What a turn gives back beside what is lent.
-pub struct Turned {
+// What a record gives back beside what is lent.
+pub struct RunOutcome {
     pub session: Session,
-    pub course: Course,
+    pub continuation: Continuation,
     pub place: usize,
     pub line: [u8; 23],
 }
@@ -50,32 +50,32 @@ fn refused_kind(script: &[u8], refusal: Refusal, place: usize) -> u8
 }
 
 // The script ends here.
-fn ended(place: usize, session: Session) -> Turned
+fn ended(place: usize, session: Session) -> RunOutcome
     ensures { λ r. ⌜ r ≡ endedAt place session ⌝ }
 {
-    Turned {
+    RunOutcome {
         session,
-        course: Course::Ends,
+        continuation: Continuation::Ends,
         place,
         line: [0; 23],
     }
 }
 
 // The line of a refusal at a place is the last.
-fn refused(script: &[u8], place: usize, refusal: Refusal, at: usize, session: Session) -> Turned
+fn refused(script: &[u8], place: usize, refusal: Refusal, at: usize, session: Session) -> RunOutcome
     ensures { λ r. ⌜ r ≡ refusedAt refusal at (now (script .entry)) place session ⌝ }
 {
     let line = script::line(refused_kind(script, refusal, at), refusal.code(), at as u64);
-    Turned {
+    RunOutcome {
         session,
-        course: Course::Stops,
+        continuation: Continuation::Stops,
         place,
         line,
     }
 }
 
-// A turn that found no record: it leaves the place and the session as they were.
-fn stopped(script: &[u8], place: usize, reading: Reading, session: Session) -> Turned
+// No record was found: place and session stay as they were.
+fn stopped(script: &[u8], place: usize, reading: Reading, session: Session) -> RunOutcome
     ensures { λ r. ⌜ r ≡ stoppedOf reading (now (script .entry)) place session ⌝ }
 {
     match reading {
@@ -86,7 +86,7 @@ fn stopped(script: &[u8], place: usize, reading: Reading, session: Session) -> T
 }
 
 // Reads the record at a place, executes it and makes its line; or says that none is left, or why the script is not read on.
-pub fn turn(
+pub fn run_record(
     script: &[u8],
     place: usize,
     cells: &mut [u16],
@@ -94,8 +94,10 @@ pub fn turn(
     constants: &[u16],
     map: MapName,
     session: Session,
-) -> Turned
-    ensures { λ r. ⌜ turnWith (now (cells .exit)) (now (copy .exit)) (now (constants .entry)) r ≡ turnOf (mapOf map) (now (script .entry)) place (machineOf (now (cells .entry)) (now (copy .entry)) (now (constants .entry)) session) ⌝ }
+) -> RunOutcome
+    ensures { λ r.
+        ⌜ runWith (lentOf (now (cells .exit)) (now (copy .exit)) (now (constants .entry))) r
+        ≡ runOf (mapOf map) (now (script .entry)) place (machineOf (lentOf (now (cells .entry)) (now (copy .entry)) (now (constants .entry))) session) ⌝ }
 {
     let reading = script::read_at(script, place);
     let Reading::Record(command, next) = reading else {
@@ -108,9 +110,9 @@ pub fn turn(
     let code = answer.code();
     let value = answer.value();
     let line = script::line(kind, code, value);
-    Turned {
+    RunOutcome {
         session: after,
-        course: Course::Goes,
+        continuation: Continuation::Continues,
         place: next,
         line,
     }
@@ -126,7 +128,7 @@ pub fn map_for(image: &[u8]) -> MapName
     MapName::Map1
 }
 
-// How many lines a script gives, whatever the image and the constants are: what its end line tells.
+// How many lines a script gives, whatever the image and the constants are: what its end line says.
 pub fn line_count(script: &[u8]) -> u64
     ensures { λ r. ⌜ ((image constants : List ℕ) → r ≡ length (linesOf (now (script .entry)) image constants)) ⌝ }
 {
@@ -154,7 +156,9 @@ fn word(low: u8, high: u8) -> u16
 
 // Fills words from the start with those of a file, and says how many they are: none where the file is no array of words, or has too many.
 pub fn file_words(bytes: &[u8], words: &mut [u16]) -> usize
-    ensures { λ r. ⌜ (r ≡ length (lentWords (length (now (words .entry))) (now (bytes .entry)))) × (now (words .exit) ≡ lentWords (length (now (words .entry))) (now (bytes .entry)) ++ drop r (now (words .entry))) ⌝ }
+    ensures { λ r.
+        ⌜ (r ≡ length (lentWords (length (now (words .entry))) (now (bytes .entry))))
+        × (now (words .exit) ≡ lentWords (length (now (words .entry))) (now (bytes .entry)) ++ drop r (now (words .entry))) ⌝ }
 {
     let n = bytes.len() / 2;
     if bytes.len() % 2 != 0 {

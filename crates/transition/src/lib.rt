@@ -1,5 +1,4 @@
 // The life cycle transition: a stroke is spent first, then the table is asked and the token hashed and compared, then the state words are programmed.
-use chip::Halves;
 use chip::Judged;
 use life_cycle::Entry;
 use life_cycle::SCRAP;
@@ -10,25 +9,25 @@ use model::Outcome;
 use model::Phase;
 use model::Reason;
 use model::Session;
+use model::Sizes;
 use partitions::Kind;
 use partitions::MapName;
+use words::Halves;
 use words::Programmed;
 use words::Rule;
+use words::eight_words;
 ghost use mathlib.Core.Path.{_≡_};
-ghost use Prim.Native.Nat.{suc, _+_, _*_, _/_, _^_, _≤_, _<_};
+ghost use mathlib.Core.List.{List};
+ghost use Prim.Native.Nat.{ℕ, suc, _+_, _*_, _/_, _^_, _≤_, _<_};
 ghost use Rattle.words.specs.Programming.{programAnswer, programCells};
 ghost use Rattle.partitions.specs.Map.{partition, numberOfKind};
 ghost use Rattle.partitions.specs.Maps.{mapOf};
 ghost use Rattle.life_cycle.specs.Words.{counterWords, stateWords};
-ghost use Rattle.life_cycle.specs.Transitions.{transition};
+ghost use Rattle.life_cycle.specs.Transitions.{tableEntry};
 ghost use Rattle.model.specs.declared.Command.{Command};
-ghost use Rattle.model.specs.Session.{inPhase};
-ghost use Rattle.model.specs.Commands.{lifeCycleRule, tokenKind, tokenOffset, hashesTo, counterAt, stateAt};
-ghost use Rattle.chip.specs.Chip.{primitives, machineOf, resultOf, resultFor};
-ghost use Rattle.transition.specs.Permit.{comparedAs, lockedPermit, permitOf, inert, dead, movedAs};
-
-// Where the hash of the RAW_UNLOCK token stands among the constants.
-const RAW_UNLOCK_HASH: usize = 124;
+ghost use Rattle.model.specs.Commands.{lifeCycleRule, tokenKind, tokenOffset, hashesTo, counterAt, stateAt, lockedToken, authorization};
+ghost use Rattle.chip.specs.Chip.{primitives, lentOf, Executes};
+ghost use Rattle.transition.specs.Permit.{comparedAs, permitOf, unchanged, inert, dead, movedAs};
 
 // Table and token permit the move, or refuse it with an answer.
 enum Permit {
@@ -36,19 +35,11 @@ enum Permit {
     Refused(Answer),
 }
 
-// The record in another phase.
-fn in_phase(session: Session, phase: Phase) -> Session
-    ensures { λ r. ⌜ r ≡ inPhase phase session ⌝ }
+// An answer that changes nothing.
+fn unchanged(session: Session, answer: Answer) -> Outcome
+    ensures { λ r. ⌜ r ≡ unchanged session answer ⌝ }
 {
-    let sensed = session.sensed;
-    let locks = session.locks;
-    Session {
-        phase,
-        sensed,
-        locks,
-        state: session.state,
-        count: session.count,
-    }
+    Outcome { session, answer }
 }
 
 // An answer that ends the session.
@@ -56,7 +47,7 @@ fn inert(session: Session, answer: Answer) -> Outcome
     ensures { λ r. ⌜ r ≡ inert session answer ⌝ }
 {
     Outcome {
-        session: in_phase(session, Phase::Inert),
+        session: session.in_phase(Phase::Inert),
         answer,
     }
 }
@@ -66,7 +57,7 @@ fn dead(session: Session, cell: usize) -> Outcome
     ensures { λ r. ⌜ r ≡ dead session cell ⌝ }
 {
     Outcome {
-        session: in_phase(session, Phase::Dead(Reason::BitCleared)),
+        session: session.in_phase(Phase::Dead(Reason::BitCleared)),
         answer: Answer::NotBlank(cell),
     }
 }
@@ -75,7 +66,8 @@ fn dead(session: Session, cell: usize) -> Outcome
 fn spend(cells: &mut [u16], constants: &[u16], map: MapName, count: u8) -> Programmed
     requires { ⌜ count < 24 ⌝ }
     ensures answer { λ r. ⌜ r ≡ programAnswer lifeCycleRule (now (cells .entry)) (counterAt (mapOf map)) (counterWords (now (constants .entry)) (suc count)) ⌝ }
-    ensures words { λ _. ⌜ now (cells .exit) ≡ programCells lifeCycleRule (now (cells .entry)) (counterAt (mapOf map)) (counterWords (now (constants .entry)) (suc count)) ⌝ }
+    ensures words { λ _.
+        ⌜ now (cells .exit) ≡ programCells lifeCycleRule (now (cells .entry)) (counterAt (mapOf map)) (counterWords (now (constants .entry)) (suc count)) ⌝ }
 {
     let at = chip::counter_at(map);
     let words = life_cycle::counter_words(constants, count + 1);
@@ -90,8 +82,10 @@ fn move_to(
     session: Session,
     target: u8,
 ) -> Outcome
-    ensures outcome { λ r. ⌜ r ≡ movedAs session (programAnswer lifeCycleRule (now (cells .entry)) (stateAt (mapOf map)) (stateWords (now (constants .entry)) target)) ⌝ }
-    ensures words { λ _. ⌜ now (cells .exit) ≡ programCells lifeCycleRule (now (cells .entry)) (stateAt (mapOf map)) (stateWords (now (constants .entry)) target) ⌝ }
+    ensures outcome { λ r.
+        ⌜ r ≡ movedAs session (programAnswer lifeCycleRule (now (cells .entry)) (stateAt (mapOf map)) (stateWords (now (constants .entry)) target)) ⌝ }
+    ensures words { λ _.
+        ⌜ now (cells .exit) ≡ programCells lifeCycleRule (now (cells .entry)) (stateAt (mapOf map)) (stateWords (now (constants .entry)) target) ⌝ }
 {
     let at = chip::state_at(map);
     let words = life_cycle::state_words(constants, target);
@@ -163,12 +157,14 @@ fn locked_permit(
     high: u64,
     low: u64,
 ) -> Permit
-    ensures { λ r. ⌜ r ≡ lockedPermit (mapOf map) session (now (copy .entry)) token (high * 2 ^ 64 + low) ⌝ }
+    ensures { λ r.
+        ⌜ ((cells constants : List ℕ)
+        → r ≡ permitOf (lentOf cells (now (copy .entry)) constants) (lockedToken primitives (mapOf map) session token (high * 2 ^ 64 + low))) ⌝ }
 {
-    if session.sensed_at(lock_of(map, token)) == 0 {
+    if !session.sensed_locked(lock_of(map, token)) {
         return Permit::Refused(Answer::TokenNotLocked);
     }
-    compared(chip::eight_words(copy, place_of(map, token)), high, low)
+    compared(eight_words(copy, place_of(map, token)), high, low)
 }
 
 // What the table's entry needs. The hash of the RAW_UNLOCK token is a constant and needs no lock.
@@ -181,13 +177,19 @@ fn permitted(
     high: u64,
     low: u64,
 ) -> Permit
-    ensures { λ r. ⌜ r ≡ permitOf (mapOf map) session (now (copy .entry)) (now (constants .entry)) (transition (session .state) target) (high * 2 ^ 64 + low) ⌝ }
+    ensures { λ r.
+        ⌜ ((cells : List ℕ) → r ≡ permitOf (lentOf cells (now (copy .entry)) (now (constants .entry)))
+        (authorization primitives (mapOf map) session (tableEntry (session .state) target) (high * 2 ^ 64 + low))) ⌝ }
 {
-    match life_cycle::transition(session.state, target) {
+    match life_cycle::table_entry(session.state, target) {
         Entry::Forbidden => Permit::Refused(Answer::NotInTable),
         Entry::Allowed(token) => match token {
             Token::Nothing => Permit::Granted,
-            Token::RawUnlock => compared(chip::eight_words(constants, RAW_UNLOCK_HASH), high, low),
+            Token::RawUnlock => compared(
+                eight_words(constants, constants::RAW_UNLOCK_HASH),
+                high,
+                low,
+            ),
             Token::TestUnlock => locked_permit(copy, map, session, token, high, low),
             Token::TestExit => locked_permit(copy, map, session, token, high, low),
             Token::Rma => locked_permit(copy, map, session, token, high, low),
@@ -195,7 +197,7 @@ fn permitted(
     }
 }
 
-// The transition command. The token comes raw, as its high and its low 64 bits.
+// The transition command. The token comes raw.
 pub fn transition(
     cells: &mut [u16],
     copy: &[u16],
@@ -203,26 +205,26 @@ pub fn transition(
     map: MapName,
     session: Session,
     target: u8,
-    token_high: u64,
-    token_low: u64,
+    token: Halves,
 ) -> Outcome
-    ensures { λ r. ⌜ resultOf (now (cells .exit)) (now (copy .entry)) (now (constants .entry)) r ≡ resultFor (mapOf map) (Command.Transition target «token_high» «token_low») (machineOf (now (cells .entry)) (now (copy .entry)) (now (constants .entry)) session) ⌝ }
+    ensures { λ r.
+        ⌜ Executes (mapOf map) (Command.Transition target (token .high) (token .low)) session
+        (lentOf (now (cells .entry)) (now (copy .entry)) (now (constants .entry)))
+        (lentOf (now (cells .exit)) (now (copy .entry)) (now (constants .entry))) r ⌝ }
 {
-    if let Judged::Refused(answer) = chip::admit(cells.len(), copy.len(), constants, map, session) {
+    let sizes = Sizes {
+        cells: cells.len(),
+        copy: copy.len(),
+    };
+    let phase = session.phase;
+    if let Judged::Refused(answer) = chip::admit(sizes, constants, map, phase) {
         return Outcome { session, answer };
     }
-    let known = (session.state <= SCRAP) & (session.count <= STROKES);
-    if !known {
-        return Outcome {
-            session,
-            answer: Answer::NotReady,
-        };
+    if !((session.state <= SCRAP) & (session.count <= STROKES)) {
+        return unchanged(session, Answer::NotReady);
     }
     if SCRAP < target {
-        return Outcome {
-            session,
-            answer: Answer::UnknownTarget,
-        };
+        return unchanged(session, Answer::UnknownTarget);
     }
     if STROKES <= session.count {
         return inert(session, Answer::StrokesUsed);
@@ -230,7 +232,7 @@ pub fn transition(
     if let Programmed::Refused(cell) = spend(cells, constants, map, session.count) {
         return dead(session, cell);
     }
-    match permitted(copy, constants, map, session, target, token_high, token_low) {
+    match permitted(copy, constants, map, session, target, token.high, token.low) {
         Permit::Refused(answer) => inert(session, answer),
         Permit::Granted => move_to(cells, constants, map, session, target),
     }

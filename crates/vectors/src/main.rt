@@ -1,4 +1,6 @@
-// The published vectors of PRESENT with a key of 128 bits. A line for each: the key, the block, the block encrypted, and that decrypted again.
+// The published vectors: of PRESENT with a key of 128 bits, a line for each with the key, the block, the block encrypted, and that decrypted again; then those
+// of the hashes.
+mod hashes;
 
 // A block encrypted and decrypted again. That it is the block is proved, whatever the key.
 fn round_trip(key_high: u64, key_low: u64, block: u64) -> u64 {
@@ -12,7 +14,7 @@ fn print_word(n: u64) {
     io::print_hex(1, n, 16);
 }
 
-fn print_text(text: &[u8]) {
+pub(crate) fn print_text(text: &[u8]) {
     io::write_all(1, text);
 }
 
@@ -36,4 +38,5 @@ fn main() {
     show(ones, ones, 0);
     show(ones, ones, ones);
     show(counted, counted, counted);
+    hashes::show_all();
 }

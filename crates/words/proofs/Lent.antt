@@ -16,7 +16,8 @@ use Rattle.words.specs.declared.Programmed.{Programmed}
 use Rattle.words.specs.declared.Programmed.the-variants.{Done, Refused}
 use Rattle.words.specs.Programming.{refuses, programAnswer, programCells}
 use Rattle.words.proofs.Parts.{sets-past}
-use Rattle.words.proofs.Programming.{answer-next, answer-stop, by-answer, append-stop, append-next, blank-done, refused-lowest, stored-done, stored-refused}
+use Rattle.words.proofs.Programming.{answer-next, answer-stop, by-answer, append-stop, append-next, blank-done, refused-lowest, stored-done}
+use Rattle.words.proofs.Programming.{stored-refused}
 
 -- ---- the loop over a part: one word more is tested
 
@@ -24,7 +25,8 @@ pub tested-next : (rule : Rule) (ss vs : List ℕ) (i : ℕ) → i < length vs �
     → programAnswer rule ss i (drop i vs) ≡ programAnswer rule ss (suc i) (drop (suc i) vs)
 tested-next rule ss vs i h e = rw (drop-cons vs i 0 h) (answer-next rule ss (drop (suc i) vs) i (getD vs i 0) e)
 
-pub tested-stop : (rule : Rule) (ss vs : List ℕ) (i : ℕ) → i < length vs → refuses rule (getD ss i 0) (getD vs i 0) ≡ true → programAnswer rule ss i (drop i vs) ≡ Refused i
+pub tested-stop : (rule : Rule) (ss vs : List ℕ) (i : ℕ) → i < length vs → refuses rule (getD ss i 0) (getD vs i 0) ≡ true
+    → programAnswer rule ss i (drop i vs) ≡ Refused i
 tested-stop rule ss vs i h e = rw (drop-cons vs i 0 h) (answer-stop rule ss (drop (suc i) vs) i (getD vs i 0) e)
 
 pub tested-end : (rule : Rule) (ss vs : List ℕ) → programAnswer rule ss (length vs) (drop (length vs) vs) ≡ Done

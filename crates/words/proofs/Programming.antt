@@ -64,7 +64,8 @@ module _ (rule : Rule) where
   answer-stop c vs at v e = if-true _ _ e
 
   -- the answer depends on the programmed cells alone
-  pub answer-same : (vs c d : List ℕ) (at : ℕ) → ((j : ℕ) → at ≤ j → j < at + length vs → getD c j 0 ≡ getD d j 0) → programAnswer rule c at vs ≡ programAnswer rule d at vs
+  pub answer-same : (vs c d : List ℕ) (at : ℕ) → ((j : ℕ) → at ≤ j → j < at + length vs → getD c j 0 ≡ getD d j 0)
+      → programAnswer rule c at vs ≡ programAnswer rule d at vs
   unfolding programAnswer
   answer-same [] c d at h = refl
   answer-same (v ∷ vs) c d at h =
@@ -85,7 +86,8 @@ module _ (rule : Rule) where
       by-cases (refuses rule (getD c at 0) v) (λ t. answer-stop c (vs ++ ws) at v t ∙ sym (answer-stop c vs at v t) ∙ e)
       (λ t. answer-next c (vs ++ ws) at v t ∙ append-stop vs ws c (suc at) i (sym (answer-next c vs at v t) ∙ e))
 
-  pub append-next : (vs ws c : List ℕ) (at : ℕ) → programAnswer rule c at vs ≡ Done → programAnswer rule c at (vs ++ ws) ≡ programAnswer rule c (at + length vs) ws
+  pub append-next : (vs ws c : List ℕ) (at : ℕ) → programAnswer rule c at vs ≡ Done
+      → programAnswer rule c at (vs ++ ws) ≡ programAnswer rule c (at + length vs) ws
   append-next [] ws c at e = rw add-zero
   append-next (v ∷ vs) ws c at e =
       answer-next c (vs ++ ws) at v (done-first c vs at v e) ∙ append-next vs ws c (suc at) (done-rest c vs at v e) ∙ rw (add-suc, suc-add)
@@ -118,7 +120,8 @@ module _ (rule : Rule) where
   -- refused: the lowest word that does not
   pub refused-lowest : (vs c : List ℕ) (at i : ℕ) → programAnswer rule c at vs ≡ Refused i → Lowest rule c at vs i
   refused-lowest [] c at i e = unfold programAnswer in (absurd (refused-not-done (sym e)))
-  refused-lowest (v ∷ vs) c at i e = by-cases (refuses rule (getD c at 0) v) here (λ t. later t (refused-lowest vs c (suc at) i (sym (answer-next c vs at v t) ∙ e)))
+  refused-lowest (v ∷ vs) c at i e =
+      by-cases (refuses rule (getD c at 0) v) here (λ t. later t (refused-lowest vs c (suc at) i (sym (answer-next c vs at v t) ∙ e)))
     where
       here : refuses rule (getD c at 0) v ≡ true → Lowest rule c at (v ∷ vs) i
       here t =
@@ -175,7 +178,8 @@ module _ (rule : Rule) where
       by-answer (programAnswer rule c at vs) (λ e. rw (stored-done c vs at e) (sets-elsewhere vs c at j h)) (λ i e. rw (stored-refused c vs at i e))
 
   -- after success the part is the value
-  pub program-takes : (c vs : List ℕ) (at : ℕ) → at + length vs ≤ length c → programAnswer rule c at vs ≡ Done → partAt (programCells rule c at vs) at (length vs) ≡ vs
+  pub program-takes : (c vs : List ℕ) (at : ℕ) → at + length vs ≤ length c → programAnswer rule c at vs ≡ Done
+      → partAt (programCells rule c at vs) at (length vs) ≡ vs
   program-takes c vs at h e = rw (stored-done c vs at e) (part-sets vs c at h)
 
   -- ---- no bit is lost

@@ -1,7 +1,7 @@
 // Fuse words of 16 bits: the numbers they stand for, and programming.
 ghost use mathlib.Core.Path.{_≡_};
-ghost use Prim.Native.Nat.{_≤_, min};
-ghost use lib.ListN.{length, take};
+ghost use Prim.Native.Nat.{_+_, _*_, _^_, _≤_, min};
+ghost use lib.ListN.{length, getD, take};
 ghost use Rattle.words.specs.Words.{numberOf, partAt, wordsOf};
 ghost use Rattle.words.specs.Programming.{refuses, programAnswer, programCells};
 
@@ -15,6 +15,13 @@ pub enum Rule {
 pub enum Programmed {
     Done,
     Refused(usize),
+}
+
+// The word at an index, and 0 past the end.
+pub fn word_at(words: &[u16], i: usize) -> u16
+    ensures { λ r. ⌜ r ≡ getD (now (words .entry)) i 0 ⌝ }
+{
+    if i < words.len() { words[i] } else { 0 }
 }
 
 // The four words of a number, the lowest first.
@@ -68,6 +75,25 @@ pub fn block_at(words: &[u16], at: usize) -> u64
         join(&words[at..])
     } else {
         0
+    }
+}
+
+// A number of 128 bits by its high and its low 64 bits.
+pub struct Halves {
+    pub high: u64,
+    pub low: u64,
+}
+
+// The number of the eight words from `at` on, zeros past the last word.
+pub fn eight_words(words: &[u16], at: usize) -> Halves
+    ensures { λ r. ⌜ r .high * 2 ^ 64 + r .low ≡ numberOf (partAt (now (words .entry)) at 8) ⌝ }
+{
+    if words.len() <= at {
+        return Halves { high: 0, low: 0 };
+    }
+    Halves {
+        high: block_at(words, at + 4),
+        low: block_at(words, at),
     }
 }
 

@@ -1,4 +1,4 @@
--- The invariant: the index stays within the line, and the room as long as it was.
+-- The invariant: the index stays within the line, and the buffer as long as it was.
 use mathlib.Core.Path.{_≡_}
 use Prim.Native.Nat.{_≤_, _-_}
 use lib.ListN.{length}

@@ -1,4 +1,4 @@
--- What waits is at most all of the room.
+-- What waits is at most all of the buffer.
 use mathlib.Core.Path.{sym}
 use lib.Seq.{length-take-le}
 use borrow.Author.Needs.{needs}

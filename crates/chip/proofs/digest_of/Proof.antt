@@ -2,7 +2,7 @@
 use mathlib.Core.Path.{ap₂, _∙_}
 use Prim.Native.Nat.{ℕ}
 use Rattle.digest.specs.Digest.{digestWords}
-use Rattle.model.specs.Lent.{digestStart, digestFinal}
+use Rattle.constants.specs.Constants.{digestStart, digestFinal}
 use borrow.Author.Needs.{needs}
 use Rattle.chip.proofs.digest_of.Statement.{statement}
 use Rattle.chip.proofs.digest_of.Tie as tie

@@ -1,5 +1,5 @@
 -- Each arm is the definition at its kind.
-use Rattle.model.specs.Lent.{keyOf}
+use Rattle.constants.specs.Constants.{keyOf}
 use borrow.Author.Needs.{needs}
 use Rattle.chip.proofs.key_of.Statement.{statement}
 use Rattle.chip.proofs.key_of.Tie as tie

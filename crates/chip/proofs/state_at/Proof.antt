@@ -14,4 +14,13 @@ unfolding stateAt
 returns c = ap (λ (n : ℕ). n + 24) (c .counter-at .ensures)
 
 pub state-at-spec : {M : Type 1} → statement M
-state-at-spec = tie.close (tie.spec (λ c κs. search needs) (λ c. record { fits = omega (arith, c .counter-at .ensures, counter-words-end _ (maps-fit (c .before .args .map)), words-short _ (maps-fit (c .before .args .map))) }) returns)
+state-at-spec =
+    tie.close (tie.spec (λ c κs. search needs)
+    (λ c. record {
+      fits = omega (
+        arith,
+        c .counter-at .ensures,
+        counter-words-end _ (maps-fit (c .before .args .map)),
+        words-short _ (maps-fit (c .before .args .map)),
+      );
+    }) returns)

@@ -2,7 +2,7 @@
 use borrow.Author.Needs.{needs}
 use mathlib.Core.Path.{sym, _∙_}
 use Rattle.partitions.specs.Maps.{mapOf}
-use Rattle.chip.specs.Chip.{machineOf, resultOf}
+use Rattle.chip.specs.Chip.{lentOf, machineOf, resultOf}
 use Rattle.frames.specs.Frames.{stepOf}
 use Rattle.frames.proofs.Steps.{step-refused, step-done}
 use Rattle.frames.proofs.perform.Statement.{statement}
@@ -17,7 +17,7 @@ returns c =
     let o = start (c .before .before) .args in
     let n = c .before .before .read-at .result in
     rw (c .refused .ensures, ← c .before .before .read-at .ensures)
-    (step-refused (mapOf (o .map)) n (o .cells .now) (o .copy .now) (o .constants .now) (o .session) (c .before .match .keys2))
+    (step-refused (mapOf (o .map)) n (lentOf (o .cells .now) (o .copy .now) (o .constants .now)) (o .session) (c .before .match .keys2))
 
 returns-2 : tie.Need-returns-2
 returns-2 c =
@@ -28,10 +28,10 @@ returns-2 c =
     step-done
     (mapOf (s .args .map))
     (s .args .script .now)
-    (machineOf (s .args .cells .now) (s .args .copy .now) (s .args .constants .now) (s .args .session))
+    (machineOf (lentOf (s .args .cells .now) (s .args .copy .now) (s .args .constants .now)) (s .args .session))
     (found .0 .0)
     (found .0 .1 .0)
-    (resultOf (x .execute .last .0) (x .execute .last .1 .0) (s .args .constants .now) (x .execute .result))
+    (resultOf (lentOf (x .execute .last .0) (x .execute .last .1 .0) (s .args .constants .now)) (x .execute .result))
     (c .before .code .result)
     (c .value .result)
     (sym (t .read-at .ensures) ∙ found .1)

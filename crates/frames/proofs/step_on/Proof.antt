@@ -1,6 +1,7 @@
 -- What `perform` gave back is written into the frame, part by part.
 use borrow.Author.Needs.{needs}
 use native.Mathlib.Omega.{arith}
+use Rattle.chip.specs.Chip.{lentOf}
 use Rattle.frames.proofs.Steps.{step-written}
 use Rattle.frames.proofs.step_on.Statement.{statement}
 use Rattle.frames.proofs.step_on.Tie as tie
@@ -32,12 +33,9 @@ returns c =
     let o = start p .args in
     let r = p .before .before .before .before .before in
     step-written
-    (o .cells .now)
-    (o .copy .now)
-    (o .constants .now)
     (o .frame .now)
-    (p .perform .last .1 .0)
-    (p .perform .last .1 .1 .0)
+    (lentOf (o .cells .now) (o .copy .now) (o .constants .now))
+    (lentOf (p .perform .last .1 .0) (p .perform .last .1 .1 .0) (o .constants .now))
     _
     _
     (p .perform .result)

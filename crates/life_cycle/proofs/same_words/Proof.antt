@@ -1,4 +1,4 @@
--- The invariant: the words below i are the same; one that differs tells the lists apart.
+-- The invariant: the words below i are the same; where one differs, the lists differ.
 use mathlib.Core.Path.{_≡_, sym, ap}
 use Prim.Native.Nat.{ℕ, _≤_, _<_, _-_}
 use native.Mathlib.Omega.{arith}

@@ -1,6 +1,7 @@
 -- All claims about one map and primitives, in one record.
 use Rattle.partitions.specs.Map.{Map}
 use Rattle.model.specs.Lent.{Primitives}
+use Rattle.model.specs.Claims.Classes.{Classes}
 use Rattle.model.specs.Claims.Demand3.{Demand3}
 use Rattle.model.specs.Claims.Refusals.{Refusals}
 use Rattle.model.specs.Claims.Places.{Places}
@@ -18,6 +19,7 @@ use Rattle.model.specs.Claims.ReadLocks.{ReadLocks}
 use Rattle.model.specs.Claims.Sensing.{Sensing}
 
 pub record Claims (prims : Primitives) (map : Map) : Type 0 where
+  pub classes : Classes
   pub demand3 : Demand3 prims map
   pub refusals : Refusals prims map
   pub places : Places map

@@ -9,7 +9,7 @@ use Rattle.model.specs.declared.Command.the-variants.{Write, Digest, Tra
 use Rattle.model.specs.Answers.{codeOf}
 use Rattle.model.specs.Lent.{Machine, Primitives}
 use Rattle.model.specs.Step.{after, machineAfter, answerTo}
-use Rattle.model.specs.Claims.Terms.{Right, CellsFit, Says, NoPowerUp}
+use Rattle.model.specs.Claims.Terms.{ValidInputs, Says, NoPowerUp}
 
 module _ (prims : Primitives) (map : Map) where
   -- in a list: a digest command of partition n that answers 0, and later, before any power-up, a write to its data that answers 0
@@ -39,8 +39,8 @@ module _ (prims : Primitives) (map : Map) where
 
   pub record FailedPowerUps : Type 0 where
     -- after a power-up that answered 0, a later one answers 6 for a partition only if it was written after its digest command
-    pub sixes : (m : Machine) → Right map m → CellsFit m → codeOf (answerTo prims map PowerUp m) ≡ 0x00 → (l : List Command) (n : ℕ)
+    pub sixes : (m : Machine) → ValidInputs map m → codeOf (answerTo prims map PowerUp m) ≡ 0x00 → (l : List Command) (n : ℕ)
         → Says 0x06 n (answerTo prims map PowerUp (after prims map (PowerUp ∷ l) m)) → WrittenAfterDigest (machineAfter prims map PowerUp m) l n
     -- and 7 only if a transition to SCRAP answered 0
-    pub sevens : (m : Machine) → Right map m → codeOf (answerTo prims map PowerUp m) ≡ 0x00 → (l : List Command)
+    pub sevens : (m : Machine) → ValidInputs map m → codeOf (answerTo prims map PowerUp m) ≡ 0x00 → (l : List Command)
         → codeOf (answerTo prims map PowerUp (after prims map (PowerUp ∷ l) m)) ≡ 0x07 → Scrapped (machineAfter prims map PowerUp m) l

@@ -1,4 +1,5 @@
 -- The life cycle in the papers' numbers, each table entered a second time: transitions, state words and counter words; and what follows for tokens.
+use Rattle.basics.specs.Choice.{if_then_else_}
 use Prim.Native.Nat.{ℕ, _+_, _*_, _^_, _≤_, _<_}
 use mathlib.Core.Path.{_≡_}
 use mathlib.Core.Bool.{true}
@@ -6,14 +7,13 @@ use mathlib.Core.List.{List, [], _∷_}
 use mathlib.Core.Logic.{_⊎_}
 use lib.Dec.{eqb, ltb}
 use lib.ListN.{getD, replicate}
-use Rattle.basics.specs.Choice.{if_then_else_}
 use Rattle.basics.specs.Digits.{bit}
 use Rattle.basics.specs.Range.{listed}
 use Rattle.partitions.specs.Map.{Map}
 use Rattle.life_cycle.specs.declared.Entry.{Entry}
 use Rattle.life_cycle.specs.declared.Entry.the-variants.{Allowed, Forbidden}
 use Rattle.life_cycle.specs.Words.{counterWords, stateWords}
-use Rattle.life_cycle.specs.Transitions.{transition}
+use Rattle.life_cycle.specs.Transitions.{tableEntry}
 use Rattle.model.specs.declared.Command.the-variants.{Transition}
 use Rattle.model.specs.Answers.{codeOf}
 use Rattle.model.specs.Lent.{Machine, Primitives}
@@ -66,8 +66,8 @@ rows =
     ∷ (o ∷ o ∷ o ∷ o ∷ o ∷ o ∷ o ∷ o ∷ o ∷ o ∷ o ∷ o ∷ o ∷ o ∷ o ∷ o ∷ o ∷ o ∷ o ∷ o ∷ o ∷ [])
     ∷ []
 
--- bit i of a state's number is 1 where B stands in word i: "state k of 1..15 has B in words 0..k-1. DEV (16): B in 0..15. PROD (17): 0..14 and 16. PROD_END (18):
--- 0..14 and 17. RMA (19): 0..16 and 18. SCRAP (20): all B."
+-- bit i of a state's number is 1 where B stands in word i: "state k of 1..15 has B in words 0..k-1. DEV (16): B in 0..15. PROD (17): 0..14 and 16. PROD_END
+-- (18): 0..14 and 17. RMA (19): 0..16 and 18. SCRAP (20): all B."
 abbrev pub marks : List ℕ
 marks =
     0x00000 ∷ 0x00001 ∷ 0x00003 ∷ 0x00007 ∷ 0x0000F ∷ 0x0001F ∷ 0x0003F ∷ 0x0007F ∷ 0x000FF ∷ 0x001FF ∷ 0x003FF
@@ -76,7 +76,7 @@ marks =
 module _ (prims : Primitives) (map : Map) where
   pub record LifeCycles : Type 0 where
     -- the transition table
-    pub table : listed (λ state. listed (transition state) 0 21) 0 21 ≡ rows
+    pub table : listed (λ state. listed (tableEntry state) 0 21) 0 21 ≡ rows
     -- "RAW (0) all zero." "Other words A." A is in constants 84 to 103, B in 104 to 123
     pub raw : (constants : List ℕ) → stateWords constants 0 ≡ replicate 20 0
     pub states : (constants : List ℕ) (state i : ℕ) → 0 < state → state ≤ 20 → i < 20

@@ -18,7 +18,7 @@ use Rattle.model.specs.declared.Command.the-variants.{Write, PowerUp}
 use Rattle.model.specs.Lent.{Machine, Primitives}
 use Rattle.model.specs.Commands.{directRule, digestRule, storedDigest}
 use Rattle.model.specs.Step.{step, after, machineAfter, answerTo}
-use Rattle.model.specs.Claims.Terms.{Right, TakesEffect}
+use Rattle.model.specs.Claims.Terms.{ValidInputs, TakesEffect}
 use Rattle.model.specs.Claims.Demand3.{Ready}
 
 -- an address in AUTH_STATE data
@@ -49,14 +49,14 @@ module _ (prims : Primitives) (map : Map) where
         → let m₁ = after prims map l m in
         Gains a (twoWords (m₁ .lent .cells) a) x (answerTo prims map x m₁) (twoWords (machineAfter prims map x m₁ .lent .cells) a)
     -- on a Ready chip, where the last power-up found the partition's digest zero, a write there that clears no bit takes effect
-    pub taken : (m : Machine) → Right map m → (l₀ l₁ : List Command) → Ready prims map m l₀ l₁ → (a value : ℕ) → InAuthState map a
+    pub taken : (m : Machine) → ValidInputs map m → (l₀ l₁ : List Command) → Ready prims map m l₀ l₁ → (a value : ℕ) → InAuthState map a
         → let m₀ = after prims map l₀ m in
         let m₁ = after prims map l₁ (machineAfter prims map PowerUp m₀) in
         storedDigest (partitionAt map a) (m₀ .lent .cells) ≡ 0
         → ((i : ℕ) → i < 2 → losesBit (getD (twoWords (m₁ .lent .cells) a) i 0) (getD (wordsOf 2 value) i 0) ≡ false)
         → TakesEffect prims map m₁ a value (step prims map (Write a value) m₁)
     -- and one that clears a bit answers 4 with "the lowest whose bit would be cleared", and changes nothing
-    pub refused : (m : Machine) → Right map m → (l₀ l₁ : List Command) → Ready prims map m l₀ l₁ → (a value : ℕ) → InAuthState map a
+    pub refused : (m : Machine) → ValidInputs map m → (l₀ l₁ : List Command) → Ready prims map m l₀ l₁ → (a value : ℕ) → InAuthState map a
         → let m₀ = after prims map l₀ m in
         let m₁ = after prims map l₁ (machineAfter prims map PowerUp m₀) in
         storedDigest (partitionAt map a) (m₀ .lent .cells) ≡ 0

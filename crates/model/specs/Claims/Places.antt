@@ -16,7 +16,8 @@ pub record Within (map : Map) (n a : ℕ) : Type 0 where
 pub record Places (map : Map) : Type 0 where
   -- "Each address below 0x380 lies in exactly one partition, found by its range."
   pub ranges : (a n : ℕ) → a < limit map → (numberAt map a ≡ n) ↔ Within map n a
-  -- "The granule is 4 bytes in partitions 0, 1, 2 and 6, and 8 bytes in 3, 4, 5"; "every digest location of partitions 0 to 5 now has 8 bytes, for read and write"
+  -- "The granule is 4 bytes in partitions 0, 1, 2 and 6, and 8 bytes in 3, 4, 5"; "every digest location of partitions 0 to 5 now has 8 bytes, for read and
+  -- write"
   pub digests : (a : ℕ) → a < limit map → partitionAt map a .digest ≤ a → wordCount (partitionAt map a) a ≡ 4
   pub secrets : (a first : ℕ) → a < limit map → KeyAt (partitionAt map a .kind) first → wordCount (partitionAt map a) a ≡ 4
   pub plains : (a : ℕ) → a < limit map → a < partitionAt map a .digest → Plain (partitionAt map a .kind) → wordCount (partitionAt map a) a ≡ 2

@@ -14,7 +14,7 @@ use Rattle.model.specs.Answers.{codeOf}
 use Rattle.model.specs.Session.{sensedAt}
 use Rattle.model.specs.Lent.{Lent, Machine, Primitives}
 use Rattle.model.specs.Step.{step, machineAfter, answerTo}
-use Rattle.model.specs.Claims.Terms.{Right, Digested, Says, notPowerUp}
+use Rattle.model.specs.Claims.Terms.{ValidInputs, Digested, Says, notPowerUp}
 use Rattle.model.specs.Claims.Numbers.{KeyAt, Hardware, Lockable, eightFrom, digestIn, digestOf}
 use Rattle.model.specs.declared.Phase.the-variants as phase
 use Rattle.partitions.specs.declared.Kind.the-variants as kind
@@ -51,26 +51,27 @@ module _ (prims : Primitives) (map : Map) where
 
   pub record PowerUps : Type 0 where
     -- "the first that differs gives 6", "value: partition"
-    pub sixes : (m : Machine) → Right map m → (n : ℕ) → Says 0x06 n (answerTo prims map PowerUp m) ↔ FirstFails (m .lent) n
-    -- "Then state and count are decoded; invalid or SCRAP gives 7 .. value for SCRAP as below, for invalid 0xFFFF", "value 256 times count plus state": where no digest
-    -- check fails, what the life cycle words encode decides
-    pub invalid : (m : Machine) → Right map m → ((n : ℕ) → Fails (m .lent) n → ⊥)
+    pub sixes : (m : Machine) → ValidInputs map m → (n : ℕ) → Says 0x06 n (answerTo prims map PowerUp m) ↔ FirstFails (m .lent) n
+    -- "Then state and count are decoded; invalid or SCRAP gives 7 .. value for SCRAP as below, for invalid 0xFFFF", "value 256 times count plus state": where
+    -- no digest check fails, what the life cycle words encode decides
+    pub invalid : (m : Machine) → ValidInputs map m → ((n : ℕ) → Fails (m .lent) n → ⊥)
         → (Says 0x07 0xFFFF (answerTo prims map PowerUp m)) ↔ ((state count : ℕ) → Encodes (m .lent) state count → ⊥)
-    pub scrap : (m : Machine) → Right map m → ((n : ℕ) → Fails (m .lent) n → ⊥) → (count : ℕ)
+    pub scrap : (m : Machine) → ValidInputs map m → ((n : ℕ) → Fails (m .lent) n → ⊥) → (count : ℕ)
         → Encodes (m .lent) 20 count → Says 0x07 (256 * count + 20) (answerTo prims map PowerUp m)
     -- "Success: Ready", with the state and the count that were decoded
-    pub done : (m : Machine) → Right map m → ((n : ℕ) → Fails (m .lent) n → ⊥) → (state count : ℕ) → (state ≡ 20 → ⊥)
+    pub done : (m : Machine) → ValidInputs map m → ((n : ℕ) → Fails (m .lent) n → ⊥) → (state count : ℕ) → (state ≡ 20 → ⊥)
         → Encodes (m .lent) state count
         → let s = machineAfter prims map PowerUp m .session in
         Says 0x00 (256 * count + state) (answerTo prims map PowerUp m) × (s .phase ≡ phase.Ready) × (s .state ≡ state) × (s .count ≡ count)
     -- "An integrity verdict is the first partition that fails a power-up's digest check, or none."; no other command has one
-    pub verdicts : (m : Machine) → Right map m
+    pub verdicts : (m : Machine) → ValidInputs map m
         → let seen = step prims map PowerUp m .verdicts in
         ((n : ℕ) → (seen ≡ some n ∷ []) ↔ FirstFails (m .lent) n) × ((seen ≡ none ∷ []) ↔ ((n : ℕ) → Fails (m .lent) n → ⊥))
     pub noVerdict : (m : Machine) (x : Command) → notPowerUp x → step prims map x m .verdicts ≡ []
-    -- "sensed digests of 0 to 5 are the stored ones"
-    pub sensed : (m : Machine) → Right map m → codeOf (answerTo prims map PowerUp m) ≡ 0x00 → (n : ℕ) → Digested map n
-        → sensedAt (machineAfter prims map PowerUp m .session) n ≡ digestIn map n (m .lent .cells)
+    -- "sensed digests of 0 to 5 are the stored ones"; the record's other entries are zero
+    pub sensed : (m : Machine) → ValidInputs map m → codeOf (answerTo prims map PowerUp m) ≡ 0x00 → (n : ℕ)
+        → let entry = sensedAt (machineAfter prims map PowerUp m .session) n in
+        (Digested map n → entry ≡ digestIn map n (m .lent .cells)) × ((Digested map n → ⊥) → entry ≡ 0)
     -- "the copy holds 2 to 6, secret data unscrambled, and zero for 0 and 1": word by word
-    pub copy : (m : Machine) → Right map m → codeOf (answerTo prims map PowerUp m) ≡ 0x00 → (j : ℕ) → j < limit map / 2
+    pub copy : (m : Machine) → ValidInputs map m → codeOf (answerTo prims map PowerUp m) ≡ 0x00 → (j : ℕ) → j < limit map / 2
         → Latched (m .lent) j (getD (machineAfter prims map PowerUp m .lent .copy) j 0)

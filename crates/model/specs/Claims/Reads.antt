@@ -13,14 +13,14 @@ use Rattle.model.specs.Answers.{codeOf}
 use Rattle.model.specs.Session.{sensedAt}
 use Rattle.model.specs.Lent.{Machine, Primitives}
 use Rattle.model.specs.Step.{answerTo}
-use Rattle.model.specs.Claims.Terms.{Right, Says}
+use Rattle.model.specs.Claims.Terms.{ValidInputs, Says}
 use Rattle.model.specs.Claims.Numbers.{KeyAt, Lockable, Shown}
 use Rattle.partitions.specs.declared.Kind.the-variants as kind
 use Rattle.model.specs.declared.Phase.the-variants as phase
 
 module _ (map : Map) where
-  -- why a read answers 5: "the address is 0x380 or more or in LIFE_CYCLE; for data, not digests, also if the partition is read-locked or is secret with a nonzero
-  -- sensed digest"
+  -- why a read answers 5: "the address is 0x380 or more or in LIFE_CYCLE; for data, not digests, also if the partition is read-locked or is secret with a
+  -- nonzero sensed digest"
   pub data ReadDenied (m : Machine) (a : ℕ) : Type 0 where
     past : limit map ≤ a → ReadDenied m a
     inLifeCycle : partitionAt map a .kind ≡ kind.LifeCycle → ReadDenied m a
@@ -40,13 +40,13 @@ module _ (prims : Primitives) (map : Map) where
     pub numbers : (word : ℕ) (words : List ℕ) → numberOf (word ∷ words) ≡ word + 65536 * numberOf words
     pub words : (n x : ℕ) → numberOf (wordsOf n x) ≡ x % 2 ^ (16 * n)
     -- a read on a Ready chip answers 5 where it is denied, else 0
-    pub read : (m : Machine) → Right map m → m .session .phase ≡ phase.Ready → (a : ℕ)
+    pub read : (m : Machine) → ValidInputs map m → m .session .phase ≡ phase.Ready → (a : ℕ)
         → let answer = answerTo prims map (Read a) m in
         (Says 0x05 0 answer ↔ ReadDenied map m a) × ((codeOf answer ≡ 0x00) ↔ (ReadDenied map m a → ⊥))
     -- "Reads look at cells; the value is the granule's"
-    pub shows : (m : Machine) → Right map m → (a value : ℕ) → answerTo prims map (Read a) m ≡ Done value
+    pub shows : (m : Machine) → ValidInputs map m → (a value : ℕ) → answerTo prims map (Read a) m ≡ Done value
         → Shown prims map (m .lent .constants) (m .lent .cells) a value
     -- "HW_CFG data from the sensed copy; any other address 5."
-    pub frontRead : (m : Machine) → Right map m → m .session .phase ≡ phase.Ready → (a : ℕ)
+    pub frontRead : (m : Machine) → ValidInputs map m → m .session .phase ≡ phase.Ready → (a : ℕ)
         → let answer = answerTo prims map (FrontRead a) m in
         (InHwCfgData map a → answer ≡ Done (numberOf (partAt (m .lent .copy) (a / 4 * 2) 2))) × ((InHwCfgData map a → ⊥) → Says 0x05 0 answer)

@@ -14,7 +14,7 @@ use Rattle.model.specs.declared.Command.the-variants.{PowerUp}
 use Rattle.model.specs.Session.{isReady}
 use Rattle.model.specs.Lent.{Machine, Primitives}
 use Rattle.model.specs.Step.{after}
-use Rattle.model.specs.Claims.Terms.{Right, NoPowerUp}
+use Rattle.model.specs.Claims.Terms.{ValidInputs, NoPowerUp}
 use Rattle.model.specs.Claims.Numbers.{Agrees, eightFrom, digestIn}
 use Rattle.model.specs.Claims.Transitions.{Compared}
 use Rattle.partitions.specs.declared.Kind.the-variants as kind
@@ -37,11 +37,12 @@ module _ (prims : Primitives) (map : Map) where
     pub places : {token : Token} {k : Kind} {first offset : ℕ} → TokenAt token k first offset
         → let p = partition map (numberOfKind map k) in
         (p .kind ≡ k) × (p .start / 2 + offset + 8 ≤ p .digest / 2)
-    -- "The stored token is that in the sensed copy"; "hashes it .. The hash is compared" (request Four): where a power-up found it so, every comparison until the next
-    -- is with this hash of 128 bits
-    pub compared : (m : Machine) → Right map m → (l₀ l₁ : List Command) → NoPowerUp l₁
+    -- "The stored token is that in the sensed copy"; "hashes it .. The hash is compared" (request Four): where a power-up found it so, every comparison until
+    -- the next is with this hash of 128 bits
+    pub compared : (m : Machine) → ValidInputs map m → (l₀ l₁ : List Command) → NoPowerUp l₁
         → let c₀ = after prims map l₀ m .lent .cells in
         let m₁ = after prims map (l₀ ++ PowerUp ∷ l₁) m in
-        isReady (m₁ .session .phase) ≡ true → (token : Token) (k : Kind) (first offset low high : ℕ) → TokenAt token k first offset → low < 2 ^ 64 → high < 2 ^ 64
+        isReady (m₁ .session .phase) ≡ true → (token : Token) (k : Kind) (first offset low high : ℕ) → TokenAt token k first offset → low < 2 ^ 64
+        → high < 2 ^ 64
         → HashStored (m .lent .constants) c₀ k first offset low high
         → (given : ℕ) (same : Bool) → Compared prims map m₁ given same token ↔ Agrees (prims .hash given) (high * 2 ^ 64 + low) same

@@ -1,4 +1,5 @@
 -- Transitions: which cells each answer leaves, when each is given, what the life cycle words stand for afterwards, and where the stored tokens lie.
+use Rattle.basics.specs.Choice.{if_then_else_}
 use Prim.Native.Nat.{ℕ, suc, _+_, _*_, _/_, _^_, _≤_, _<_}
 use mathlib.Core.Path.{_≡_}
 use mathlib.Core.Bool.{Bool, true, false, _||_}
@@ -6,7 +7,6 @@ use mathlib.Core.List.{List, [], _∷_, _++_}
 use mathlib.Core.Logic.{_↔_, _⊎_}
 use mathlib.Core.Option.{none}
 use lib.Dec.{eqb}
-use Rattle.basics.specs.Choice.{if_then_else_}
 use Rattle.words.specs.Words.{numberOf, partAt}
 use Rattle.words.specs.Programming.{programAnswer}
 use Rattle.partitions.specs.declared.Kind.{Kind}
@@ -18,17 +18,17 @@ use Rattle.life_cycle.specs.declared.LifeCycle.the-variants.{Valid}
 use Rattle.life_cycle.specs.declared.Token.{Token}
 use Rattle.life_cycle.specs.declared.Token.the-variants.{Nothing, RawUnlock, TestUnlock, TestExit, Rma}
 use Rattle.life_cycle.specs.Words.{counterWords, stateWords}
-use Rattle.life_cycle.specs.Transitions.{transition}
-use Rattle.life_cycle.specs.Constants.{validConstants}
+use Rattle.life_cycle.specs.Transitions.{tableEntry}
+use Rattle.constants.specs.Constants.{validConstants}
 use Rattle.model.specs.declared.Command.{Command}
 use Rattle.model.specs.declared.Command.the-variants.{Transition, PowerUp}
 use Rattle.model.specs.Answers.{codeOf, valueOf}
 use Rattle.model.specs.Session.{isReady, sensedAt}
 use Rattle.model.specs.Lent.{Machine, Primitives, rightLengths}
-use Rattle.model.specs.Commands.{lifeCycleRule, tokenKind, storedToken, counterAt, stateAt}
+use Rattle.model.specs.Commands.{lifeCycleRule, tokenKind, storedToken, counterAt, stateAt, classOf, transiting}
 use Rattle.model.specs.PowerUp.{verdictOf, lifeCycleIn}
 use Rattle.model.specs.Step.{step, after, machineAfter, answerTo}
-use Rattle.model.specs.Claims.Terms.{Right, Says, Put, NoPowerUp}
+use Rattle.model.specs.Claims.Terms.{ValidInputs, Says, Put, NoPowerUp}
 use Rattle.model.specs.Claims.Numbers.{Agrees, eightFrom}
 use Rattle.model.specs.Claims.Refusals.{early}
 use Rattle.model.specs.declared.Phase.the-variants as phase
@@ -40,12 +40,12 @@ use Rattle.life_cycle.specs.declared.Entry.the-variants as entry
 unfoldable pub strokeOnly : ℕ → Bool
 strokeOnly code = eqb code 0x21 || eqb code 0x22 || eqb code 0x23
 
--- the course of a life cycle: it stays, spends a stroke, or spends a stroke and takes an entry of the table
-pub data Course (x : LifeCycle) : LifeCycle → Type 0 where
-  stays : Course x x
-  spends : {state count : ℕ} → Course x (Valid state count) → Course x (Valid state (suc count))
-  moves : {state count target : ℕ} {token : Token} → Course x (Valid state count) → transition state target ≡ entry.Allowed token
-      → Course x (Valid target (suc count))
+-- the progress of a life cycle: it stays, spends a stroke, or spends a stroke and takes an entry of the table
+pub data Progress (x : LifeCycle) : LifeCycle → Type 0 where
+  stays : Progress x x
+  spends : {state count : ℕ} → Progress x (Valid state count) → Progress x (Valid state (suc count))
+  moves : {state count target : ℕ} {token : Token} → Progress x (Valid state count) → tableEntry state target ≡ entry.Allowed token
+      → Progress x (Valid target (suc count))
 
 module _ (prims : Primitives) (map : Map) where
   -- "the 24 counter words of one stroke more than the record's count", and with them "the 20 state words" of a target, which follow
@@ -59,7 +59,8 @@ module _ (prims : Primitives) (map : Map) where
   -- is sensed locked. "With none, the token is ignored".
   abbrev pub Stored : Machine → ℕ → Bool → Kind → ℕ → Type 0
   Stored m given same k offset =
-      (sensedAt (m .session) (numberOfKind map k) ≡ 0 → ⊥) × Agrees (prims .hash given) (eightFrom (m .lent .copy) (partition map (numberOfKind map k) .start / 2 + offset)) same
+      (sensedAt (m .session) (numberOfKind map k) ≡ 0 → ⊥)
+      × Agrees (prims .hash given) (eightFrom (m .lent .copy) (partition map (numberOfKind map k) .start / 2 + offset)) same
 
   -- "124 to 131 hashed RAW_UNLOCK token"; "SECRET0 (TEST_UNLOCK, TEST_EXIT, 16 bytes each)", "SECRET2 (RMA token 16, ..)": 16 bytes are 8 words
   abbrev pub Compared : Machine → ℕ → Bool → Token → Type 0
@@ -72,14 +73,15 @@ module _ (prims : Primitives) (map : Map) where
   -- the table asks for a token, and this is what comparing it comes to
   pub record Asked (m : Machine) (target given : ℕ) (same : Bool) : Type 0 where
     pub token : Token
-    pub allowed : transition (m .session .state) target ≡ entry.Allowed token
+    pub allowed : tableEntry (m .session .state) target ≡ entry.Allowed token
     pub compared : Compared m given same token
 
   -- the table asks for a token that is stored in a partition which is not sensed locked
   pub data Unlocked (m : Machine) (target : ℕ) : Type 0 where
-    testUnlock : transition (m .session .state) target ≡ entry.Allowed TestUnlock → sensedAt (m .session) (numberOfKind map kind.Secret0) ≡ 0 → Unlocked m target
-    testExit : transition (m .session .state) target ≡ entry.Allowed TestExit → sensedAt (m .session) (numberOfKind map kind.Secret0) ≡ 0 → Unlocked m target
-    rma : transition (m .session .state) target ≡ entry.Allowed Rma → sensedAt (m .session) (numberOfKind map kind.Secret2) ≡ 0 → Unlocked m target
+    testUnlock : tableEntry (m .session .state) target ≡ entry.Allowed TestUnlock → sensedAt (m .session) (numberOfKind map kind.Secret0) ≡ 0
+        → Unlocked m target
+    testExit : tableEntry (m .session .state) target ≡ entry.Allowed TestExit → sensedAt (m .session) (numberOfKind map kind.Secret0) ≡ 0 → Unlocked m target
+    rma : tableEntry (m .session .state) target ≡ entry.Allowed Rma → sensedAt (m .session) (numberOfKind map kind.Secret2) ≡ 0 → Unlocked m target
 
   -- a programmed bit of the counter words would be cleared; or, where the table's token was given, one of the state words
   pub data Stops (m : Machine) (target given : ℕ) : Type 0 where
@@ -89,7 +91,8 @@ module _ (prims : Primitives) (map : Map) where
 
   -- "A 4 at either programming leaves that step's words alone": the word named, and the cells after it
   pub data Stopped (m : Machine) (target cell : ℕ) (cells : List ℕ) : Type 0 where
-    counter : programAnswer lifeCycleRule (m .lent .cells) (counterAt map) (strokeWords m) ≡ programmed.Refused cell → cells ≡ m .lent .cells → Stopped m target cell cells
+    counter : programAnswer lifeCycleRule (m .lent .cells) (counterAt map) (strokeWords m) ≡ programmed.Refused cell → cells ≡ m .lent .cells
+        → Stopped m target cell cells
     state : Put lifeCycleRule (counterAt map) (strokeWords m) (m .lent .cells) cells
         → programAnswer lifeCycleRule cells (stateAt map) (stateWords (m .lent .constants) target) ≡ programmed.Refused cell → Stopped m target cell cells
 
@@ -142,50 +145,53 @@ module _ (prims : Primitives) (map : Map) where
         × (target ≤ 20 → m .session .count < 24
         → ((code ≡ 0x04) ↔ Stops m target given)
         × ((code ≡ 0x04 → ⊥)
-        → ((code ≡ 0x21) ↔ (transition (m .session .state) target ≡ entry.Forbidden))
+        → ((code ≡ 0x21) ↔ (tableEntry (m .session .state) target ≡ entry.Forbidden))
         × ((code ≡ 0x22) ↔ Unlocked m target)
         × ((code ≡ 0x23) ↔ Asked m target given false)
         × ((code ≡ 0x00) ↔ Asked m target given true)))
     -- 7 for the record: "or state or count in the record above 20 or 24 (transition only)"
-    pub records : (m : Machine) → Right map m → m .session .phase ≡ phase.Ready → (target high low : ℕ)
+    pub records : (m : Machine) → ValidInputs map m → m .session .phase ≡ phase.Ready → (target high low : ℕ)
         → Says 0x07 0 (answerTo prims map (Transition target high low) m) ↔ ((20 < m .session .state) ⊎ (24 < m .session .count))
     -- "The value is 0 unless stated."
     pub values : (m : Machine) (target high low : ℕ)
         → let answer = answerTo prims map (Transition target high low) m in
         codeOf answer ≡ 0x00 → valueOf answer ≡ 0
-    -- "A token comparison is the test behind 0x23, its result whether the tokens agree.": none with no token, else one; none before 0x23
+    -- "A token comparison is the test behind 0x23, its result whether the tokens agree.": none with no token, else one; none before 0x23. No other command has
+    -- one.
     pub comparisons : (m : Machine) (target high low : ℕ)
         → let s = step prims map (Transition target high low) m in
         let code = codeOf (s .result .answer) in
         (code ≡ 0x23 → s .compared ≡ false ∷ [])
-        × (code ≡ 0x00 → transition (m .session .state) target ≡ entry.Allowed Nothing → s .compared ≡ [])
-        × (code ≡ 0x00 → (transition (m .session .state) target ≡ entry.Allowed Nothing → ⊥) → s .compared ≡ true ∷ [])
+        × (code ≡ 0x00 → tableEntry (m .session .state) target ≡ entry.Allowed Nothing → s .compared ≡ [])
+        × (code ≡ 0x00 → (tableEntry (m .session .state) target ≡ entry.Allowed Nothing → ⊥) → s .compared ≡ true ∷ [])
+        × (code ≡ 0x04 → (s .compared ≡ []) ⊎ ((tableEntry (m .session .state) target ≡ entry.Allowed Nothing → ⊥) × (s .compared ≡ true ∷ [])))
         × ((code ≡ 0x23 → ⊥) → (code ≡ 0x00 → ⊥) → (code ≡ 0x04 → ⊥) → s .compared ≡ [])
+    pub noComparison : (m : Machine) (x : Command) → (classOf x ≡ transiting → ⊥) → step prims map x m .compared ≡ []
     -- a transition that answers 0 was given the token that the table asks for, by its hash, and one that answers 0x23 another, on any machine
     pub tokens : (m : Machine) (target high low : ℕ)
         → let given = high * 2 ^ 64 + low in
         let code = codeOf (answerTo prims map (Transition target high low) m) in
         (code ≡ 0x00 → Asked m target given true) × (code ≡ 0x23 → Asked m target given false)
     -- a chip that is Ready in a list from a power-up gives none of 0x10, 0x12 and 0x07, and 4 "can't occur in a sequence from power-up with the same constants"
-    pub fair : (m : Machine) → Right map m → (l : List Command)
+    pub fair : (m : Machine) → ValidInputs map m → (l : List Command)
         → let m₁ = after prims map (PowerUp ∷ l) m in
         isReady (m₁ .session .phase) ≡ true
         → Fair m₁ × ((target high low : ℕ) → codeOf (answerTo prims map (Transition target high low) m₁) ≡ 0x04 → ⊥)
     -- what the life cycle words then stand for, after a stroke alone and after a move
-    pub leaves : (m : Machine) → Right map m → (l : List Command) (target high low : ℕ)
+    pub leaves : (m : Machine) → ValidInputs map m → (l : List Command) (target high low : ℕ)
         → let m₁ = after prims map (PowerUp ∷ l) m in
         let x = Transition target high low in
         let code = codeOf (answerTo prims map x m₁) in
         (strokeOnly code ≡ true → Leaves (m₁ .session .state) (suc (m₁ .session .count)) (machineAfter prims map x m₁))
         × (code ≡ 0x00 → Leaves target (suc (m₁ .session .count)) (machineAfter prims map x m₁))
     -- from a power-up on, what the life cycle words decode to only goes along the table, a stroke at a time
-    pub courses : (m : Machine) → Right map m → (l₁ l₂ : List Command)
-        → Course (lifeCycleIn map (after prims map (PowerUp ∷ l₁) m .lent)) (lifeCycleIn map (after prims map (PowerUp ∷ l₁ ++ l₂) m .lent))
+    pub progress : (m : Machine) → ValidInputs map m → (l₁ l₂ : List Command)
+        → Progress (lifeCycleIn map (after prims map (PowerUp ∷ l₁) m .lent)) (lifeCycleIn map (after prims map (PowerUp ∷ l₁ ++ l₂) m .lent))
     -- and the stroke count never falls
-    pub counts : (s n t k : ℕ) → Course (Valid s n) (Valid t k) → n ≤ k
+    pub counts : (s n t k : ℕ) → Progress (Valid s n) (Valid t k) → n ≤ k
 
--- "SECRET0 (TEST_UNLOCK, TEST_EXIT, 16 bytes each)", "SECRET2 (RMA token 16, two root key shares 32 each)", and in Map 2 the same items in the same order: at which
--- byte of the copy each token stands, and the number of the partition whose lock it asks for
+-- "SECRET0 (TEST_UNLOCK, TEST_EXIT, 16 bytes each)", "SECRET2 (RMA token 16, two root key shares 32 each)", and in Map 2 the same items in the same order: at
+-- which byte of the copy each token stands, and the number of the partition whose lock it asks for
 pub record TokenPlaces : Type 0 where
   pub map1Places : (copy : List ℕ)
       → (storedToken map1 TestUnlock copy ≡ numberOf (partAt copy (0x250 / 2) 8))

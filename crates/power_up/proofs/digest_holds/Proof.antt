@@ -7,6 +7,7 @@ use borrow.Author.Tests.{not-true, not-false}
 use Rattle.partitions.specs.Map.{rightsOf}
 use Rattle.partitions.specs.declared.Rights.{Rights}
 use Rattle.chip.specs.Chip.{primitives}
+use Rattle.chip.proofs.Reading.{digest-within}
 use Rattle.power_up.proofs.Checking.{none-due, none-stored, compared}
 use Rattle.power_up.proofs.digest_holds.Statement.{statement}
 use Rattle.power_up.proofs.digest_holds.Tie as tie
@@ -29,7 +30,9 @@ returns-3 : tie.Need-returns-3
 returns-3 c =
     let s = c .before .before in
     let t = s .before .before .before in
-    ap₂ eqb (s .stored-digest .ensures) (c .computed-digest .ensures)
+    let o = t .before .before .before in
+    let computed = c .computed-digest .ensures ∙ digest-within (o .args .cells .now) (o .args .constants .now) (o .args .partition) (o .pre .0) (o .pre .1) in
+    ap₂ eqb (s .stored-digest .ensures) computed
     ∙ compared primitives _ _ _ (due t (not-false _ (s .before .if1 .left))) (λ z. c .before .if2 .left (s .stored-digest .ensures ∙ z))
 
 pub digest-holds-spec : {M : Type 1} → statement M

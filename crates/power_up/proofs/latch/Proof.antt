@@ -17,7 +17,8 @@ use Rattle.power_up.proofs.latch.Tie as tie
 
 abbrev Inv-loop : tie.InvT-loop
 Inv-loop cells constants map copy₀ at₀ copy at =
-    (at ≤ limit (mapOf map) / 2) × (at % 4 ≡ 0) × (length copy ≡ limit (mapOf map) / 2) × (limit (mapOf map) / 2 % 4 ≡ 0) × ((j : ℕ) → j < at → getD copy j 0 ≡ copyWord primitives (mapOf map) constants cells j)
+    (at ≤ limit (mapOf map) / 2) × (at % 4 ≡ 0) × (length copy ≡ limit (mapOf map) / 2) × (limit (mapOf map) / 2 % 4 ≡ 0)
+    × ((j : ℕ) → j < at → getD copy j 0 ≡ copyWord primitives (mapOf map) constants cells j)
 
 abbrev μ-loop : tie.MeasureT-loop
 μ-loop cells constants map copy₀ at₀ copy at = limit (mapOf map) / 2 - at

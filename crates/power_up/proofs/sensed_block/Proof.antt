@@ -5,8 +5,6 @@ use mathlib.Core.List.{List}
 use Prim.Native.Nat.{ℕ, _*_, _<_}
 use native.Mathlib.Omega.{arith}
 use borrow.Author.Needs.{needs}
-use lib.Dec.{leb}
-use borrow.Author.Tests.{le-leb, lt-leb}
 use Rattle.words.specs.Words.{wordsOf}
 use Rattle.words.proofs.Words.{Words}
 use Rattle.partitions.specs.declared.Partition.{Partition}
@@ -42,9 +40,8 @@ module _ (t : tie.After-rights) where
   lockable : {b : Bool} → t .rights .result .lockable ≡ b → rightsOf (partitionAt map (2 * at) .kind) .lockable ≡ b
   lockable e = sym (ap (λ (r : Rights). r .lockable) (t .rights .ensures) ∙ ap (λ (p : Partition). rightsOf (p .kind) .lockable) found) ∙ e
 
-  side : {b : Bool} → leb (t .before .partition-of .result .digest) (2 * at) ≡ b → inDigest (partitionAt map (2 * at)) (2 * at) ≡ b
-  unfolding inDigest
-  side e = ap (λ (p : Partition). leb (p .digest) (2 * at)) (sym found) ∙ e
+  side : {b : Bool} → inDigest (t .before .partition-of .result) (2 * at) ≡ b → inDigest (partitionAt map (2 * at)) (2 * at) ≡ b
+  side e = ap (λ (p : Partition). inDigest p (2 * at)) (sym found) ∙ e
 
   known : 2 * at < limit map
   known = omega (arith, start .pre .1)
@@ -59,22 +56,24 @@ returns c =
 
 returns-2 : tie.Need-returns-2
 returns-2 c =
-    let j = c .before .before .before in
+    let d = c .before .before in
+    let j = d .before in
     let t = j .before .before in
     c .split .ensures
     ∙ ap (wordsOf 4) (j .block-at .ensures)
     ∙ digest-block primitives _ (maps-fit (start t .args .map)) _ _ (at t) (start t .pre .0) (known t) (small t) (lockable t (j .before .if1 .left))
-    (side t (le-leb _ _ (c .before .if2 .taken)))
+    (side t (sym (d .in-digest .ensures) ∙ c .before .if2 .taken))
 
 returns-3 : tie.Need-returns-3
 returns-3 c =
-    let j = c .before .before .before .before in
+    let d = c .before .before .before in
+    let j = d .before in
     let t = j .before .before in
     let block = ap₂ (unscrambled primitives (start t .args .constants .now)) (found t) (j .block-at .ensures) in
     c .split2 .ensures
     ∙ ap (wordsOf 4) (c .before .unscrambled .ensures ∙ block)
     ∙ data-block primitives _ (maps-fit (start t .args .map)) _ _ (at t) (start t .pre .0) (known t) (small t) (lockable t (j .before .if1 .left))
-    (side t (lt-leb _ _ (c .before .before .if2 .left)))
+    (side t (sym (d .in-digest .ensures) ∙ c .before .before .if2 .left))
 
 pub sensed-block-spec : {M : Type 1} → statement M
 sensed-block-spec =
@@ -85,6 +84,7 @@ sensed-block-spec =
     (λ c κs. search needs)
     (λ c κs. search needs)
     returns
+    (λ c κs. search needs)
     (λ c κs. search needs)
     (λ c κs. search needs)
     returns-2

@@ -1,6 +1,6 @@
 -- Shifted down, the group is the lowest, and the mask 15 keeps it alone.
 use borrow.Author.Needs.{needs}
-use Rattle.present.proofs.Turns.{group-is}
+use Rattle.present.proofs.Sums.{group-is}
 use Rattle.present.proofs.group.Statement.{statement}
 use Rattle.present.proofs.group.Tie as tie
 

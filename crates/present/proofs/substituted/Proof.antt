@@ -6,7 +6,7 @@ use lib.Dec.{lit<}
 use Rattle.basics.specs.Digits.{digit}
 use Rattle.basics.proofs.Digits.{digit-lt}
 use Rattle.present.specs.Present.{substitute}
-use Rattle.present.proofs.Turns.{Sums, sums-none, sums-more, sums-fit, sums-all, shifted, sixteen-power}
+use Rattle.present.proofs.Sums.{Sums, sums-none, sums-more, sums-fit, sums-all, shifted, sixteen-power}
 use Rattle.present.proofs.Boxes.{substitute-lt}
 use Rattle.present.proofs.substituted.Statement.{statement}
 use Rattle.present.proofs.substituted.Tie as tie

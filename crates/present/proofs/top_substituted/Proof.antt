@@ -7,7 +7,7 @@ use borrow.Author.Needs.{needs}
 use Rattle.basics.specs.Digits.{digit}
 use Rattle.basics.proofs.Digits.{digit-lt}
 use Rattle.present.specs.Present.{sBox}
-use Rattle.present.proofs.Turns.{shifted}
+use Rattle.present.proofs.Sums.{shifted}
 use Rattle.present.proofs.Boxes.{sBox-lt}
 use Rattle.present.proofs.KeyRegister.{top, top-lt, topped-lt}
 use Rattle.present.proofs.top_substituted.Statement.{statement}

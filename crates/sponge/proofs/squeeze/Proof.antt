@@ -9,7 +9,7 @@ use Rattle.basics.proofs.Range.{Follows, follows-none, follows-more, follows-al
 use Rattle.keccak.specs.Permutation.{keccakF}
 use Rattle.sponge.specs.Sponge.{byteAt, permutedTimes, squeezed}
 use Rattle.sponge.specs.Streaming.{rate}
-use Rattle.sponge.proofs.Turning.{tested, permuted-due, permuted-not-due}
+use Rattle.sponge.proofs.Permuting.{tested, permuted-due, permuted-not-due}
 use Rattle.sponge.proofs.squeeze.Statement.{statement}
 use Rattle.sponge.proofs.squeeze.Tie as tie
 

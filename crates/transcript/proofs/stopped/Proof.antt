@@ -1,7 +1,7 @@
 -- Each arm is `stoppedOf` at its reading.
 use mathlib.Core.Path.{_≡_, sym, ap, _∙_}
 use Rattle.script.specs.declared.Reading.{Reading}
-use Rattle.transcript.specs.Turns.{stoppedOf}
+use Rattle.transcript.specs.Runs.{stoppedOf}
 use borrow.Author.Needs.{needs}
 use Rattle.transcript.proofs.stopped.Statement.{statement}
 use Rattle.transcript.proofs.stopped.Tie as tie

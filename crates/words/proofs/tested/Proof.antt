@@ -31,8 +31,11 @@ loop-again c =
     let q = c .before in
     let l = q .before .before .before .before in
     let o = l .before .before .before .args in
-    let i = l .loop .i in
-    (omega arith, rw (add-one i) (l .loop .inv .1 ∙ tested-next (o .rule) (o .part .now) (o .value .now) i (omega arith) (sym (q .refuses .ensures) ∙ c .if1 .left)))
+    let i = l .loop .i in (
+      omega arith,
+      rw (add-one i) (l .loop .inv .1
+          ∙ tested-next (o .rule) (o .part .now) (o .value .now) i (omega arith) (sym (q .refuses .ensures) ∙ c .if1 .left)),
+    )
 
 returns-2 : tie.Need-returns-2 Inv-loop μ-loop
 returns-2 c =

@@ -5,13 +5,13 @@ use Prim.Native.Nat.{_+_, _-_, _*_}
 use native.Mathlib.Omega.{arith}
 use lib.ListN.{length}
 use Rattle.basics.proofs.Range.{Follows, follows-none, follows-more, follows-all}
-use Rattle.script.specs.Records.{numberAt}
+use Rattle.script.specs.Records.{littleEndianAt}
 use Rattle.frames.specs.Bytes.{numbersAt}
 use Rattle.frames.proofs.numbers.fill_words.Statement.{statement}
 use Rattle.frames.proofs.numbers.fill_words.Tie as tie
 
 abbrev Inv-loop : tie.InvT-loop
-Inv-loop frame at words₀ i₀ i-end words i = Follows (λ j. numberAt frame (at + 2 * j) 2) (length words₀) words i
+Inv-loop frame at words₀ i₀ i-end words i = Follows (λ j. littleEndianAt frame (at + 2 * j) 2) (length words₀) words i
 
 abbrev μ-loop : tie.MeasureT-loop
 μ-loop frame at words₀ i₀ i-end words i = length words₀ - i

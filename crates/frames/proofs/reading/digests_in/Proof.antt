@@ -4,13 +4,13 @@ use mathlib.Core.Path.{refl}
 use Prim.Native.Nat.{_+_, _-_, _*_}
 use native.Mathlib.Omega.{arith}
 use Rattle.basics.proofs.Range.{Follows, follows-none, follows-more, follows-all}
-use Rattle.script.specs.Records.{numberAt}
+use Rattle.script.specs.Records.{littleEndianAt}
 use Rattle.frames.specs.Bytes.{numbersAt}
 use Rattle.frames.proofs.reading.digests_in.Statement.{statement}
 use Rattle.frames.proofs.reading.digests_in.Tie as tie
 
 abbrev Inv-loop : tie.InvT-loop
-Inv-loop frame digests₀ i₀ digests i = Follows (λ j. numberAt frame (8 + 8 * j) 8) 10 digests i
+Inv-loop frame digests₀ i₀ digests i = Follows (λ j. littleEndianAt frame (8 + 8 * j) 8) 10 digests i
 
 abbrev μ-loop : tie.MeasureT-loop
 μ-loop frame digests₀ i₀ digests i = 10 - i

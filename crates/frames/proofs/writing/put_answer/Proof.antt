@@ -52,7 +52,9 @@ module _ (t : tie.After-put-number) where
   frame₃ = putMid 120 8 (frame₂ after₂) (t .put-number .last .0)
 
   valued : Written right₃ frame₃
-  valued = then-filled (cleared after₂) 120 128 (omega arith) (omega arith) (λ n. bytesOf n (start₂ after₂ .args .value)) _ (λ n. bytes-length n _) (t .put-number .ensures)
+  valued =
+      then-filled (cleared after₂) 120 128 (omega arith) (omega arith) (λ n. bytesOf n (start₂ after₂ .args .value)) _ (λ n. bytes-length n _)
+      (t .put-number .ensures)
 
 part-clear-end-2 : tie.Need-part-clear-end-2
 part-clear-end-2 c = let l = valued (c .before .before) .whole in omega arith

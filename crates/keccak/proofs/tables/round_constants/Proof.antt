@@ -2,13 +2,13 @@
 use mathlib.Core.Path.{refl}
 use Rattle.basics.specs.Choice.{if_then_else_}
 use Rattle.basics.specs.Range.{listed, sum}
-use Rattle.keccak.specs.StepMappings.{turned, register, rc, roundConstant}
+use Rattle.keccak.specs.StepMappings.{registerStep, register, rc, roundConstant}
 use Rattle.keccak.specs.Tables.{roundConstants}
 use Rattle.keccak.proofs.tables.round_constants.Statement.{statement}
 use Rattle.keccak.proofs.tables.round_constants.Tie as tie
 
 returns : tie.Need-returns
-unfolding if_then_else_ listed sum turned register rc roundConstant roundConstants
+unfolding if_then_else_ listed sum registerStep register rc roundConstant roundConstants
 returns c = refl
 
 pub round-constants-spec : {M : Type 1} → statement M

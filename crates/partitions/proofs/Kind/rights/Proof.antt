@@ -1,4 +1,4 @@
--- Each arm gives what the definition grants the kind that the arm was told.
+-- Each arm gives what the definition grants the arm's kind.
 use mathlib.Core.Path.{sym, ap}
 use borrow.Author.Needs.{needs}
 use Rattle.partitions.specs.Map.{rightsOf}
