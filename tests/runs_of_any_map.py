@@ -1,4 +1,4 @@
-"""Bench runs that are made on each map: the 14 cases of document 01, edges, a full provisioning, a life cycle course, power-ups that fail."""
+"""Bench runs that are made on each map: the 14 cases of document 01, edges, a full provisioning, a life cycle from RAW to SCRAP, power-ups that fail."""
 from run_terms import (EXAMPLE, GOOD, MAP1, MAP2, RAW_TOKEN, RMA_TOKEN, TEST_EXIT, TEST_UNLOCK, UP, digest, front, lines, lock, move, plain_lines, read, state,
                        with_word, write)
 
@@ -81,7 +81,7 @@ def provisioning(m):
 
 
 # What is asked on the way from RAW to SCRAP, with the answer and the power-up's value after it.
-COURSE = (
+MOVES = (
     (move(1, RAW_TOKEN ^ 1), 0x23, 0x100),
     (move(1, RAW_TOKEN), 0, 0x201),
     (move(2), 0, 0x302),
@@ -95,11 +95,11 @@ COURSE = (
 )
 
 
-def life_cycle_course(m):
+def raw_to_scrap(m):
     secret0, _, secret2 = m.secrets
-    m.run("life_cycle_course", "RAW through TEST, DEV and RMA to SCRAP, with right and wrong tokens",
-          UP + filled(m) + digest(secret0.start) + digest(secret2.start) + UP + b"".join(record + UP for record, _, _ in COURSE) + move(20) + UP + read(0) + UP,
-          last=plain_lines((7, 0, 0), *[line for _, code, value in COURSE for line in ((6, code, 0), (7, 0, value))],
+    m.run("raw_to_scrap", "RAW through TEST, DEV and RMA to SCRAP, with right and wrong tokens",
+          UP + filled(m) + digest(secret0.start) + digest(secret2.start) + UP + b"".join(record + UP for record, _, _ in MOVES) + move(20) + UP + read(0) + UP,
+          last=plain_lines((7, 0, 0), *[line for _, code, value in MOVES for line in ((6, code, 0), (7, 0, value))],
                            (6, 0, 0), (7, 7, 0xB14), (1, 7, 0), (7, 7, 0xB14)))
 
 
@@ -136,5 +136,5 @@ def wrong_lengths(m):
 
 
 for each in (MAP1, MAP2):
-    for subject in (wrong_lengths, all_cases, edges, provisioning, life_cycle_course, failed_power_ups):
+    for subject in (wrong_lengths, all_cases, edges, provisioning, raw_to_scrap, failed_power_ups):
         subject(each)

@@ -42,7 +42,7 @@ not-dead {reason = BitCleared} e z = omega (arith, ap dead-code e, z)
 not-dead {reason = DigestFailed} e z = omega (arith, ap dead-code e, z)
 not-dead {reason = LifeCycleFailed} e z = omega (arith, ap dead-code e, z)
 
--- only a 4 makes an act die
+-- only a 4 makes the chip Dead at the end of an act
 abbrev DeadWithFour : Answer → Effect → Type 0
 DeadWithFour answer noEffect = Unit {0}
 DeadWithFour answer (lock number) = Unit {0}

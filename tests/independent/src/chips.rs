@@ -6,9 +6,9 @@ use crate::life_cycle::{counter_words, state_words};
 use crate::map::{Kind, Partition};
 use crate::model::{Chip, Command};
 use crate::random::Random;
+use crate::random_commands;
 use crate::raw_tokens::{half_of, RawTokens};
 use crate::transition::stored_tokens;
-use crate::walk;
 
 /// Random valid constants.
 pub fn constants(tokens: &mut RawTokens, random: &mut Random) -> Vec<u16> {
@@ -118,7 +118,7 @@ fn store(chip: &mut Chip, address: u32, stored: u128) {
 pub fn provisioned(blank: &Chip, skip: u64, tokens: &mut RawTokens, random: &mut Random) -> Chip {
     let mut chip = written(blank, skip, tokens, random);
     for _ in 0..random.choose(&[0, 0, 1, 1, 2, 2, 3, 4, 6, 10]) {
-        let transition = walk::transition(&chip, tokens, random);
+        let transition = random_commands::transition(&chip, tokens, random);
         chip.execute(transition);
         chip.execute(Command::PowerUp);
     }

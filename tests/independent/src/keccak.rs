@@ -58,7 +58,7 @@ fn column_parities(sheet: &Sheet) -> [bool; DEPTH] {
 }
 
 /// Each lane but the first is moved along z, by a distance that grows as the
-/// walk from (1, 0) reaches it.
+/// steps from (1, 0) reach it.
 fn rho(state: &State) -> State {
     let mut next = *state;
     let (mut x, mut y) = (1, 0);

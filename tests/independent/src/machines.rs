@@ -7,11 +7,11 @@ use crate::life_cycle::{MOST_STROKES, SCRAP};
 use crate::map::Map;
 use crate::model::{Chip, Command, Phase};
 use crate::random::Random;
+use crate::random_commands;
 use crate::raw_tokens::RawTokens;
 use crate::scenarios::unknown_kind;
 use crate::script::record;
 use crate::transition::stored_tokens;
-use crate::walk;
 use std::io::{self, Write};
 
 /// Chips of each map that machines are made from.
@@ -48,7 +48,7 @@ impl Machines {
         alter_copy(&mut chip, tokens, random);
         let record = match random.one_in(24) {
             true => vec![unknown_kind(random)],
-            false => record(walk::of_kind(
+            false => record(random_commands::of_kind(
                 1 + random.below(7) as u8,
                 &chip,
                 tokens,
@@ -88,7 +88,7 @@ fn base(map: &Map, random: &mut Random) -> Base {
     };
     chip.execute(Command::PowerUp);
     let length = random.choose(&[0, 0, 3, 10]);
-    walk::walk(&mut chip, length, &mut tokens, random);
+    random_commands::sequence(&mut chip, length, &mut tokens, random);
     chip.session.digests.resize(map.partitions.len().max(10), 0);
     chip.session
         .read_locks

@@ -26,6 +26,7 @@ mod model;
 mod power_up;
 mod present;
 mod random;
+mod random_commands;
 mod raw_tokens;
 mod runs;
 mod scenarios;
@@ -39,7 +40,6 @@ mod token;
 mod transition;
 mod twin;
 mod twin_token;
-mod walk;
 mod words;
 
 use random::Random;

@@ -10,15 +10,15 @@ const INVALID: u64 = 0xFFFF;
 impl Chip {
     pub fn power_up(&mut self) -> Answer {
         if let Some(number) = self.first_damaged() {
-            return self.die(0x06, number as u64);
+            return self.fails(0x06, number as u64);
         }
         let decoded = life_cycle::decode(&self.constants, &self.cells[self.map.life_cycle()]);
         let Some((state, count)) = decoded else {
-            return self.die(0x07, INVALID);
+            return self.fails(0x07, INVALID);
         };
         let value = 256 * u64::from(count) + u64::from(state);
         if state == SCRAP {
-            return self.die(0x07, value);
+            return self.fails(0x07, value);
         }
         self.session = Session {
             phase: Phase::Ready,
@@ -46,7 +46,7 @@ impl Chip {
             .find(|&number| self.stored_digest(number) != self.computed_digest(number))
     }
 
-    fn die(&mut self, code: u8, value: u64) -> Answer {
+    fn fails(&mut self, code: u8, value: u64) -> Answer {
         self.copy = vec![0; self.map.cells()];
         self.session = Session {
             phase: Phase::Dead(code),

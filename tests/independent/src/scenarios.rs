@@ -6,9 +6,9 @@ use crate::constants::lay_raw_token;
 use crate::map::Map;
 use crate::model::{Chip, Command};
 use crate::random::Random;
+use crate::random_commands;
 use crate::raw_tokens::RawTokens;
 use crate::script::{record, LONGEST};
-use crate::walk;
 
 /// One run. A file may be missing.
 pub struct Run {
@@ -66,7 +66,7 @@ pub fn make(map: &Map, random: &mut Random) -> Run {
 /// A script for the chip, well formed most of the time.
 fn script(chip: &mut Chip, tokens: &mut RawTokens, random: &mut Random) -> Vec<u8> {
     let length = random.choose(&[2, 12, 30, 60, 90, 120]);
-    let commands = walk::walk(chip, 1 + random.below(length), tokens, random);
+    let commands = random_commands::sequence(chip, 1 + random.below(length), tokens, random);
     let mut records: Vec<Vec<u8>> = commands.into_iter().map(record).collect();
     match random.below(40) {
         0..=3 => records.push(cut(random)),
@@ -116,7 +116,7 @@ pub fn unknown_kind(random: &mut Random) -> u8 {
 /// The script brought to a length with reads, the last bytes as they fall.
 fn filled(mut script: Vec<u8>, length: usize, map: &Map, random: &mut Random) -> Vec<u8> {
     while script.len() < length {
-        script.extend(record(Command::Read(walk::address(map, random))));
+        script.extend(record(Command::Read(random_commands::address(map, random))));
     }
     script.truncate(length);
     script

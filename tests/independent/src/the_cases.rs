@@ -432,8 +432,8 @@ fn with_hashes(state: u8) -> Chip {
 fn each_token_is_right_by_its_hash() {
     for (state, target, token) in MOVES {
         let mut chip = with_hashes(state);
-        let woken = 6 * 256 + u64::from(target);
-        let steps = [(Transition(target, token), 0, 0), (PowerUp, 0, woken)];
+        let value = 6 * 256 + u64::from(target);
+        let steps = [(Transition(target, token), 0, 0), (PowerUp, 0, value)];
         expect(&mut chip, &steps);
     }
 }

@@ -10,7 +10,7 @@ use crate::transition::stored_tokens;
 
 /// Carries out up to `length` random commands on the chip and tells which.
 /// On a chip that will not power up, few are enough.
-pub fn walk(
+pub fn sequence(
     chip: &mut Chip,
     length: u64,
     tokens: &mut RawTokens,
