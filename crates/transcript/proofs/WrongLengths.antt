@@ -14,6 +14,7 @@ use Rattle.partitions.specs.Map.{Map, limit}
 use Rattle.partitions.specs.Map1.{map1}
 use Rattle.partitions.specs.Map2.{map2}
 use Rattle.partitions.specs.Maps.{mapOf}
+use Rattle.constants.specs.Constants.{constantCount}
 use Rattle.model.specs.declared.Answer.the-variants.{WrongLength}
 use Rattle.model.specs.declared.Command.{Command}
 use Rattle.model.specs.Lent.{rightSizes, Machine, rightLengths}
@@ -44,25 +45,25 @@ bytes-from bytes n some =
 
 -- ---- right and wrong lengths
 
-first-map : (image constants : List ℕ) → length image ≡ 896 → length constants ≡ 264
+first-map : (image constants : List ℕ) → length image ≡ 896 → length constants ≡ 2 * constantCount
     → (mapUsed image ≡ map1) × (rightLengths (mapUsed image) (chipOf image constants .lent) ≡ true)
 unfolding rightSizes mapFor mapOf limit map1
 first-map image constants h k =
-    rw (if-false Map2 Map1 (ne-eqb (length image) 1480 (λ e. omega (arith, h, e))), words-from image 448 h, words-from constants 132 k) (refl, refl)
+    rw (if-false Map2 Map1 (ne-eqb (length image) 1480 (λ e. omega (arith, h, e))), words-from image 448 h, words-from constants constantCount k) (refl, refl)
 
-second-map : (image constants : List ℕ) → length image ≡ 1480 → length constants ≡ 264
+second-map : (image constants : List ℕ) → length image ≡ 1480 → length constants ≡ 2 * constantCount
     → (mapUsed image ≡ map2) × (rightLengths (mapUsed image) (chipOf image constants .lent) ≡ true)
 unfolding rightSizes mapFor mapOf limit map2
-second-map image constants h k = rw (if-true Map2 Map1 (eq-eqb (length image) 1480 h), words-from image 740 h, words-from constants 132 k) (refl, refl)
+second-map image constants h k = rw (if-true Map2 Map1 (eq-eqb (length image) 1480 h), words-from image 740 h, words-from constants constantCount k) (refl, refl)
 
 images-wrong : (image constants : List ℕ) → (length image ≡ 896 → ⊥) → (length image ≡ 1480 → ⊥) → Wrong image constants
 unfolding rightSizes mapFor mapOf limit map1
 images-wrong image constants h k =
     rw (if-false Map2 Map1 (ne-eqb (length image) 1480 k), ne-eqb (length (fileWords image)) 448 (λ e. h (bytes-from image 448 (lit< tt) e)))
 
-constants-wrong : (image constants : List ℕ) → (length constants ≡ 264 → ⊥) → Wrong image constants
+constants-wrong : (image constants : List ℕ) → (length constants ≡ 2 * constantCount → ⊥) → Wrong image constants
 unfolding rightSizes
-constants-wrong image constants h = rw (ne-eqb (length (fileWords constants)) 132 (λ e. h (bytes-from constants 132 (lit< tt) e)))
+constants-wrong image constants h = rw (ne-eqb (length (fileWords constants)) constantCount (λ e. h (bytes-from constants constantCount (lit< tt) e)))
     (and-false (eqb (length (chipOf image constants .lent .cells)) (limit (mapUsed image) / 2)
     && eqb (length (chipOf image constants .lent .copy)) (limit (mapUsed image) / 2)) refl)
 
