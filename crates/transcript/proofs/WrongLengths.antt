@@ -54,7 +54,8 @@ first-map image constants h k =
 second-map : (image constants : List ℕ) → length image ≡ 1480 → length constants ≡ 2 * constantCount
     → (mapUsed image ≡ map2) × (rightLengths (mapUsed image) (chipOf image constants .lent) ≡ true)
 unfolding rightSizes mapFor mapOf limit map2
-second-map image constants h k = rw (if-true Map2 Map1 (eq-eqb (length image) 1480 h), words-from image 740 h, words-from constants constantCount k) (refl, refl)
+second-map image constants h k =
+    rw (if-true Map2 Map1 (eq-eqb (length image) 1480 h), words-from image 740 h, words-from constants constantCount k) (refl, refl)
 
 images-wrong : (image constants : List ℕ) → (length image ≡ 896 → ⊥) → (length image ≡ 1480 → ⊥) → Wrong image constants
 unfolding rightSizes mapFor mapOf limit map1
