@@ -45,22 +45,30 @@ bytes-from bytes n some =
 
 -- ---- right and wrong lengths
 
+map1-named : (image : List ℕ) → (length image ≡ 1480 → ⊥) → mapFor image ≡ Map1
+unfolding mapFor
+map1-named image h = if-false _ _ (ne-eqb (length image) 1480 h)
+
+map2-named : (image : List ℕ) → length image ≡ 1480 → mapFor image ≡ Map2
+unfolding mapFor
+map2-named image h = if-true _ _ (eq-eqb (length image) 1480 h)
+
 first-map : (image constants : List ℕ) → length image ≡ 896 → length constants ≡ 2 * constantCount
     → (mapUsed image ≡ map1) × (rightLengths (mapUsed image) (chipOf image constants .lent) ≡ true)
-unfolding rightSizes mapFor mapOf limit map1
+unfolding rightSizes mapOf limit map1
 first-map image constants h k =
-    rw (if-false Map2 Map1 (ne-eqb (length image) 1480 (λ e. omega (arith, h, e))), words-from image 448 h, words-from constants constantCount k) (refl, refl)
+    rw (map1-named image (λ e. omega (arith, h, e)), words-from image 448 h, words-from constants constantCount k) (refl, refl)
 
 second-map : (image constants : List ℕ) → length image ≡ 1480 → length constants ≡ 2 * constantCount
     → (mapUsed image ≡ map2) × (rightLengths (mapUsed image) (chipOf image constants .lent) ≡ true)
-unfolding rightSizes mapFor mapOf limit map2
+unfolding rightSizes mapOf limit map2
 second-map image constants h k =
-    rw (if-true Map2 Map1 (eq-eqb (length image) 1480 h), words-from image 740 h, words-from constants constantCount k) (refl, refl)
+    rw (map2-named image h, words-from image 740 h, words-from constants constantCount k) (refl, refl)
 
 images-wrong : (image constants : List ℕ) → (length image ≡ 896 → ⊥) → (length image ≡ 1480 → ⊥) → Wrong image constants
-unfolding rightSizes mapFor mapOf limit map1
+unfolding rightSizes mapOf limit map1
 images-wrong image constants h k =
-    rw (if-false Map2 Map1 (ne-eqb (length image) 1480 k), ne-eqb (length (fileWords image)) 448 (λ e. h (bytes-from image 448 (lit< tt) e)))
+    rw (map1-named image k, ne-eqb (length (fileWords image)) 448 (λ e. h (bytes-from image 448 (lit< tt) e)))
 
 constants-wrong : (image constants : List ℕ) → (length constants ≡ 2 * constantCount → ⊥) → Wrong image constants
 unfolding rightSizes
