@@ -103,8 +103,8 @@ module _ (prims : Primitives) (C : Cipher prims) (map : Map) (F : fit map ≡ tr
     as-given constants value = ap₂ wordsOf count (if-false _ _ plain)
 
     -- its two words, as the laws of granules have them
-    two : (cells : List ℕ) → partAt cells (firstWord p a) (wordCount p a) ≡ twoWords cells a
-    two cells = ap₂ (partAt cells) place count
+    as-two-words : (cells : List ℕ) → partAt cells (firstWord p a) (wordCount p a) ≡ twoWords cells a
+    as-two-words cells = ap₂ (partAt cells) place count
 
   -- ---- one command
 
@@ -116,7 +116,7 @@ module _ (prims : Primitives) (C : Cipher prims) (map : Map) (F : fit map ≡ tr
     unwritten : (x : Command) → notWritten map a x (answerTo prims map x m)
         → Gains a (twoWords cells a) x (answerTo prims map x m) (twoWords (machineAfter prims map x m .lent .cells) a)
     unwritten x sp =
-        let e = sym (two i _) ∙ step-stays prims C map F a (i .below) (direct i) (not-digest i) x m sp ∙ two i cells in
+        let e = sym (as-two-words i _) ∙ step-stays prims C map F a (i .below) (direct i) (not-digest i) x m sp ∙ as-two-words i cells in
         rw e stays
 
     -- an address of the same granule is one of AUTH_STATE data
