@@ -16,6 +16,8 @@ mod hash_inputs;
 mod inputs;
 mod keccak;
 mod life_cycle;
+#[cfg(test)]
+mod life_cycle_cases;
 mod machines;
 mod map;
 #[cfg(test)]

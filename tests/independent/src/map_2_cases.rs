@@ -1,11 +1,11 @@
-//! The 14 cases of the paper read over Map 2. Addresses are counted out by
-//! hand.
+//! The cases of the paper read over Map 2, but for those of the life cycle.
+//! Addresses are counted out by hand.
 
-use crate::case_steps::{expect, in_state, powered};
-use crate::constants::{example, EXAMPLE_HASH, EXAMPLE_TOKEN};
+use crate::case_steps::{expect, powered};
+use crate::constants::example;
 use crate::map::Map;
-use crate::model::{Chip, Command, Phase};
-use Command::{Digest, FrontRead, PowerUp, Read, ReadLock, Transition, Write};
+use crate::model::{Chip, Command};
+use Command::{Digest, FrontRead, PowerUp, Read, ReadLock, Write};
 
 fn blank() -> Chip {
     Chip::blank(&Map::two(), &example())
@@ -13,10 +13,6 @@ fn blank() -> Chip {
 
 fn ready() -> Chip {
     powered(blank())
-}
-
-fn at(state: u8, count: u8) -> Chip {
-    in_state(&Map::two(), &example(), state, count)
 }
 
 /// Start and digest of the partitions with a software digest.
@@ -157,64 +153,6 @@ fn case_08_read_lock() {
         expect(&mut chip, &[(ReadLock(number), 5, 0)]);
     }
     assert_eq!(chip.session.read_locks, vec![false; 11]);
-}
-
-#[test]
-fn case_09_raw_unlock() {
-    let mut chip = ready();
-    expect(&mut chip, &[(Transition(1, EXAMPLE_TOKEN), 0, 0)]);
-    assert_eq!(chip.session.phase, Phase::Inert);
-    let others = [
-        Read(0),
-        Write(0, 0),
-        FrontRead(0x440),
-        Digest(0x488),
-        ReadLock(4),
-        Transition(21, 0),
-    ];
-    for command in others {
-        expect(&mut chip, &[(command, 7, 0)]);
-    }
-    expect(&mut chip, &[(PowerUp, 0, 257)]);
-}
-
-#[test]
-fn case_10_wrong_token() {
-    for token in [EXAMPLE_TOKEN ^ 1 << 127, EXAMPLE_HASH, 0] {
-        let steps = [(Transition(1, token), 0x23, 0), (PowerUp, 0, 256)];
-        expect(&mut ready(), &steps);
-    }
-}
-
-#[test]
-fn case_11_not_in_the_table() {
-    let steps = [(Transition(16, 0), 0x21, 0), (PowerUp, 0, 256)];
-    expect(&mut ready(), &steps);
-}
-
-#[test]
-fn case_12_strokes_used() {
-    let mut chip = powered(at(1, 24));
-    let cells = chip.cells.clone();
-    expect(&mut chip, &[(Transition(20, 0), 0x20, 0)]);
-    assert_eq!(chip.cells, cells);
-    assert_eq!(chip.session.phase, Phase::Inert);
-}
-
-#[test]
-fn case_13_token_partition_open() {
-    for token in [0, EXAMPLE_TOKEN] {
-        let mut chip = powered(at(2, 2));
-        let (low, high) = (EXAMPLE_HASH as u64, (EXAMPLE_HASH >> 64) as u64);
-        let steps = [
-            (Write(0x498, low), 0, 0),
-            (Write(0x4a0, high), 0, 0),
-            (PowerUp, 0, 2 * 256 + 2),
-            (Transition(3, token), 0x22, 0),
-            (PowerUp, 0, 3 * 256 + 2),
-        ];
-        expect(&mut chip, &steps);
-    }
 }
 
 #[test]

@@ -1,5 +1,5 @@
-//! The 14 cases of the paper, those of requests Two to Five, and rules about
-//! the record beside them.
+//! The cases of the paper but for those of the life cycle, over Map 1, those of
+//! requests Two to Five, and rules about the record beside them.
 
 use crate::case_steps::{expect, in_state, powered};
 use crate::chips;
@@ -300,66 +300,6 @@ fn case_08_read_lock() {
         (Read(0x000), 0, 0),
     ];
     expect(&mut ready(), &steps);
-}
-
-#[test]
-fn case_09_raw_unlock() {
-    let mut chip = ready();
-    expect(&mut chip, &[(Transition(1, EXAMPLE_TOKEN), 0, 0)]);
-    assert_eq!(chip.session.phase, Phase::Inert);
-    let others = [
-        Read(0),
-        Write(0, 0),
-        FrontRead(0x200),
-        Digest(0x200),
-        ReadLock(0),
-        Transition(21, 0),
-    ];
-    for command in others {
-        expect(&mut chip, &[(command, 7, 0)]);
-    }
-    expect(&mut chip, &[(PowerUp, 0, 257)]);
-}
-
-#[test]
-fn case_10_wrong_token() {
-    for token in [EXAMPLE_TOKEN ^ 1 << 127, EXAMPLE_HASH, 0] {
-        let steps = [(Transition(1, token), 0x23, 0), (PowerUp, 0, 256)];
-        expect(&mut ready(), &steps);
-    }
-}
-
-#[test]
-fn case_11_not_in_the_table() {
-    expect(
-        &mut ready(),
-        &[(Transition(16, 0), 0x21, 0), (PowerUp, 0, 256)],
-    );
-}
-
-#[test]
-fn case_12_strokes_used() {
-    let mut chip = powered(at(1, 24));
-    let cells = chip.cells.clone();
-    expect(&mut chip, &[(Transition(20, 0), 0x20, 0)]);
-    assert_eq!(chip.cells, cells);
-    assert_eq!(chip.session.phase, Phase::Inert);
-}
-
-#[test]
-fn case_13_token_partition_open() {
-    for token in [0, EXAMPLE_TOKEN] {
-        let mut chip = powered(at(2, 2));
-        let (low, high) = (EXAMPLE_HASH as u64, (EXAMPLE_HASH >> 64) as u64);
-        let steps = [
-            (Write(0x250, low), 0, 0),
-            (Write(0x258, high), 0, 0),
-            (PowerUp, 0, 2 * 256 + 2),
-            (Transition(3, token), 0x22, 0),
-            (PowerUp, 0, 3 * 256 + 2),
-        ];
-        expect(&mut chip, &steps);
-    }
 }
 
 #[test]
