@@ -16,7 +16,7 @@ use Rattle.words.proofs.Words.{Words}
 use Rattle.words.proofs.Parts.{part-number-lt}
 use Rattle.present.specs.Present.{encryptBlock}
 use Rattle.present.proofs.Inverse.{encrypt-lt}
-use Rattle.digest.specs.Digest.{absorb, absorbAll, digestOf, blocksOf, digestWords}
+use Rattle.digest.specs.Digest.{absorb, absorbAll, digestBlocks, blocksOf, digestWords}
 
 absorb-lt : (k s : ℕ) → k < 2 ^ 128 → s < 2 ^ 64 → absorb k s < 2 ^ 64
 unfolding absorb
@@ -42,5 +42,5 @@ blocks-lt {ws} w i =
     n = (length ws + 3) / 4
 
 pub digest-lt : (start final : ℕ) (ws : List ℕ) → start < 2 ^ 64 → final < 2 ^ 128 → Words ws → digestWords start final ws < 2 ^ 64
-unfolding digestWords digestOf
+unfolding digestWords digestBlocks
 digest-lt start final ws l h w = absorb-lt final _ h (absorb-all-lt start l (blocksOf ws) (blocks-lt w))

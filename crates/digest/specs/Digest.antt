@@ -18,12 +18,12 @@ absorbAll s [] = s
 absorbAll s (low ∷ []) = absorb low s
 absorbAll s (low ∷ high ∷ blocks) = absorbAll (absorb (high * 2 ^ 64 + low) s) blocks
 
-unfoldable pub digestOf : ℕ → ℕ → List ℕ → ℕ
-digestOf start final blocks = absorb final (absorbAll start blocks)
+unfoldable pub digestBlocks : ℕ → ℕ → List ℕ → ℕ
+digestBlocks start final blocks = absorb final (absorbAll start blocks)
 
 -- the blocks of words: block i is the number of the four words from 4 i on, zeros past the last word
 unfoldable pub blocksOf : List ℕ → List ℕ
 blocksOf ws = listed (λ i. numberOf (partAt ws (4 * i) 4)) 0 ((length ws + 3) / 4)
 
 unfoldable pub digestWords : ℕ → ℕ → List ℕ → ℕ
-digestWords start final ws = digestOf start final (blocksOf ws)
+digestWords start final ws = digestBlocks start final (blocksOf ws)

@@ -22,8 +22,8 @@ use Rattle.script.specs.Records.{littleEndianAt, nextAt}
 use Rattle.script.proofs.Records.{Other}
 use Rattle.frames.specs.declared.Stepped.{Stepped}
 use Rattle.frames.specs.Bytes.{numbersAt}
-use Rattle.frames.specs.Frames.{mapIn, sessionIn, lentIn, cellsIn, copyIn, constantsIn, recordIn, Step, stepBy, stepOf, stepWith, refusedOf, withSession}
-use Rattle.frames.specs.Frames.{withAnswer, withMemory, frameWith, frameOn, frameAfter}
+use Rattle.frames.specs.Frames.{mapIn, sessionIn, lentIn, cellsIn, copyIn, constantsIn, recordIn, FrameStep, stepBy, stepOf, stepWith, refusedOf}
+use Rattle.frames.specs.Frames.{withSession, withAnswer, withMemory, frameWith, frameOn, frameAfter}
 
 pub step-refused : (map : Map) (n : Reading) (l : Lent) (session : Session) → Other n
     → stepWith l (refusedOf n session) ≡ stepBy map n (machineOf l session)
@@ -32,7 +32,7 @@ step-refused map (Record command next) l session h = absurd (⊎-elim (λ w. ome
 step-refused map End l session h = refl
 step-refused map (Refused refusal at) l session h = refl
 
-abbrev stepped : Result → ℕ → ℕ → Step
+abbrev stepped : Result → ℕ → ℕ → FrameStep
 stepped r code value = record { machine = r .machine; code = code; value = value }
 
 pub step-done : (map : Map) (script : List ℕ) (m : Machine) (command : Command) (next : ℕ) (r : Result) (code value : ℕ)
@@ -56,7 +56,7 @@ pub step-written : (frame : List ℕ) (l after : Lent) (map : MapName) (session 
 step-written frame l after map session s one two three m r done a b c =
     c
     ∙ ap (withMemory (after .cells) (after .copy)) (b ∙ ap (withAnswer (s .code) (s .value)) a)
-    ∙ ap (λ (x : Step). frameWith x frame) (done ∙ ap₂ (λ (n : MapName) (x : Session). stepOf (mapOf n) (recordIn frame) (machineOf l x)) m r)
+    ∙ ap (λ (x : FrameStep). frameWith x frame) (done ∙ ap₂ (λ (n : MapName) (x : Session). stepOf (mapOf n) (recordIn frame) (machineOf l x)) m r)
 
 -- what is lent holds the words of the frame
 pub step-filled : (frame cells copy constants after : List ℕ) (n m k : ℕ)

@@ -86,24 +86,24 @@ recordIn frame = take 32 (drop 112 frame)
 
 -- ---- the command, or what the reader says of a record
 
-pub record Step : Type 0 where
+pub record FrameStep : Type 0 where
   pub machine : Machine
   pub code : ℕ
   pub value : ℕ
 
 -- a refusal leaves the machine as it was; its value is the place, which is 0. Place 0 of 32 bytes is never their end: its clause is never asked.
-unfoldable pub stepBy : Map → Reading → Machine → Step
+unfoldable pub stepBy : Map → Reading → Machine → FrameStep
 stepBy map (Record command next) m =
     let r = resultFor map command m in
     record { machine = r .machine; code = codeOf (r .answer); value = valueOf (r .answer) }
 stepBy map (Refused refusal at) m = record { machine = m; code = refusalCode refusal; value = at }
 stepBy map End m = record { machine = m; code = 0; value = 0 }
 
-unfoldable pub stepOf : Map → List ℕ → Machine → Step
+unfoldable pub stepOf : Map → List ℕ → Machine → FrameStep
 stepOf map script m = stepBy map (nextAt script 0) m
 
 -- what is lent after a step, with what it gave back
-abbrev pub stepWith : Lent → Stepped → Step
+abbrev pub stepWith : Lent → Stepped → FrameStep
 stepWith l s = record { machine = machineOf l (s .session); code = s .code; value = s .value }
 
 -- what a record that is not executed gives back; a record never comes here (its clause is never asked)
@@ -151,7 +151,7 @@ withMemory cells copy frame =
     from 2204 put allBytes 2 copy
     from 4884 put zeros 236
 
-abbrev pub frameWith : Step → List ℕ → List ℕ
+abbrev pub frameWith : FrameStep → List ℕ → List ℕ
 frameWith s frame = withMemory (s .machine .lent .cells) (s .machine .lent .copy) (withAnswer (s .code) (s .value) (withSession (s .machine .session) frame))
 
 -- the frame out, for what is lent beside it

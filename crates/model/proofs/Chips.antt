@@ -1,6 +1,5 @@
 -- Two chips that differ only in hidden words answer alike. The idea: both decide the same act, since what an act depends on shows; a performed
 -- act changes no hidden word; and hidden partitions stay locked.
-use Rattle.basics.specs.Choice.{if_then_else_}
 use mathlib.Core.Path.{_≡_, refl, sym, ap, ap₂, subst, _∙_}
 use mathlib.Core.Bool.{Bool, true, false, _&&_}
 use mathlib.Core.List.{List, [], _∷_}
@@ -8,6 +7,7 @@ use Prim.Native.Nat.{ℕ, _+_, _*_, _/_, _≤_, _<_}
 use native.Mathlib.Omega.{arith}
 use lib.ListN.{length, getD}
 use borrow.Author.Tests.{not-false}
+use Rattle.basics.specs.Choice.{if_then_else_}
 use Rattle.basics.specs.Range.{listed}
 use Rattle.basics.proofs.Choice.{by-cases, true-not-false, not-passed, if-true, if-false, if-same}
 use Rattle.basics.proofs.Range.{length-listed, listed-at, is-listed}

@@ -1,6 +1,5 @@
 -- The act that each command is decided to be, by cases on the commands. The idea: past the refusals that change nothing a command shows a value, locks a
 -- partition, programs a granule or a digest, or spends a stroke; whatever else holds of acts is shown for these forms.
-use Rattle.basics.specs.Choice.{if_then_else_}
 use mathlib.Core.Path.{_≡_, refl}
 use mathlib.Core.Bool.{Bool, true, false, _||_}
 use mathlib.Core.List.{List}
@@ -8,6 +7,7 @@ use Prim.Native.Nat.{ℕ, suc, _*_, _+_, _/_, _^_, _≤_, _<_}
 use native.Mathlib.Omega.{arith}
 use lib.Dec.{leb, ltb}
 use borrow.Author.Tests.{not-false, not-true, leb-true, ltb-true, ltb-false}
+use Rattle.basics.specs.Choice.{if_then_else_}
 use Rattle.basics.proofs.Choice.{if-both, and-left, and-right}
 use Rattle.words.specs.Words.{wordsOf}
 use Rattle.partitions.specs.Map.{Map, numberAt, partitionAt, limit, firstWord}

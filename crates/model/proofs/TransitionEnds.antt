@@ -1,6 +1,5 @@
 -- The ends of a transition. The idea: past the early refusals it has eight ends, each with what led to it and the cells that it leaves; whatever is claimed of
 -- its answers is read off the list of ends.
-use Rattle.basics.specs.Choice.{if_then_else_}
 use mathlib.Core.Path.{_≡_, refl, sym}
 use mathlib.Core.Bool.{Bool, true, false, not}
 use mathlib.Core.List.{List}
@@ -8,6 +7,7 @@ use mathlib.Core.Logic.{_⊎_, inl, inr, ⊎-elim}
 use Prim.Native.Nat.{ℕ, _+_, _*_, _^_, _≤_, _<_}
 use lib.Dec.{eqb, leb, ltb}
 use borrow.Author.Tests.{eqb-true, not-false, not-true, leb-true, leb-false, ltb-true, ltb-false, le-leb, eqb-false}
+use Rattle.basics.specs.Choice.{if_then_else_}
 use Rattle.basics.proofs.Choice.{true-not-false, by-cases, if-both, and-both}
 use Rattle.words.specs.Programming.{programAnswer, programCells}
 use Rattle.partitions.specs.Map.{Map, numberOfKind}

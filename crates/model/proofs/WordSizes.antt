@@ -1,5 +1,4 @@
 -- Cells stay words of 16 bits. The idea: whatever a command programs is made of words of 16 bits.
-use Rattle.basics.specs.Choice.{if_then_else_}
 use mathlib.Core.Bool.{Bool}
 use mathlib.Core.List.{List, [], _∷_}
 use Prim.Native.Nat.{ℕ, zero, suc, _+_, _/_, _<_}
@@ -8,6 +7,7 @@ use lib.Dec.{eqb, ltb}
 use lib.ListN.{length, getD, set}
 use lib.Seq.{sets, set-out, getD-set-same, getD-set-other}
 use borrow.Author.Tests.{eqb-true, eqb-false, ltb-true, ltb-false}
+use Rattle.basics.specs.Choice.{if_then_else_}
 use Rattle.basics.proofs.Choice.{by-cases, if-both}
 use Rattle.words.specs.declared.Rule.{Rule}
 use Rattle.words.specs.Words.{wordsOf}

@@ -1,8 +1,8 @@
 -- A command is first decided, as an act, and then performed on what is lent: it says an answer, programs words, or compares a token.
-use Rattle.basics.specs.Choice.{if_then_else_}
 use Prim.Native.Nat.{ℕ}
 use mathlib.Core.Bool.{Bool}
 use mathlib.Core.List.{List, [], _∷_}
+use Rattle.basics.specs.Choice.{if_then_else_}
 use Rattle.words.specs.declared.Rule.{Rule}
 use Rattle.words.specs.declared.Programmed.{Programmed}
 use Rattle.words.specs.declared.Programmed.the-variants as programmed

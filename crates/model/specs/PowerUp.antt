@@ -1,11 +1,11 @@
 -- Power-up, "from any phase".
-use Rattle.basics.specs.Choice.{if_then_else_}
 use Prim.Native.Nat.{ℕ, _+_, _*_, _-_, _/_}
 use mathlib.Core.Bool.{Bool, not, _&&_, _||_}
 use mathlib.Core.List.{List}
 use mathlib.Core.Option.{Option, none, some}
 use lib.Dec.{eqb}
 use lib.ListN.{length, getD}
+use Rattle.basics.specs.Choice.{if_then_else_}
 use Rattle.basics.specs.Range.{listed, firstNot}
 use Rattle.words.specs.Words.{wordsOf, partAt}
 use Rattle.partitions.specs.declared.Partition.{Partition}

@@ -1,10 +1,10 @@
 -- One command, and lists of commands: "each gets the cells, copy and record that the last one left".
-use Rattle.basics.specs.Choice.{if_then_else_}
 use Prim.Native.Nat.{ℕ}
 use mathlib.Core.Bool.{Bool, not}
 use mathlib.Core.List.{List, [], _∷_}
 use mathlib.Core.Option.{Option, none, some}
 use lib.ListN.{length}
+use Rattle.basics.specs.Choice.{if_then_else_}
 use Rattle.partitions.specs.Map.{Map}
 use Rattle.constants.specs.Constants.{validConstants}
 use Rattle.model.specs.declared.Sizes.{Sizes}

@@ -8,7 +8,7 @@ use lib.Bits.{bitXor}
 use lib.Dec.{lit<}
 use lib.ListN.{getD, set}
 use lib.Pow.{pow-add, shl-exact}
-use Rattle.sponge.specs.Sponge.{byteAt}
+use Rattle.sponge.specs.Sponge.{stateByte}
 use Rattle.sponge.specs.Streaming.{withByte}
 
 pub power-256 : (k : ℕ) → 2 ^ (8 * k) ≡ 256 ^ k
@@ -26,5 +26,5 @@ unfolding withByte
 with-byte lanes i byte x e h =
     ap (λ (y : ℕ). set lanes (i / 8) (bitXor (getD lanes (i / 8) 0) y)) (shifted x (i % 8) h (mod-lt i (lit< tt)) ∙ ap (λ (y : ℕ). y * 256 ^ (i % 8)) e)
 
-pub byte-at : (lanes : List ℕ) (i : ℕ) → getD lanes (i / 8) 0 / 2 ^ (8 * (i % 8)) % 256 ≡ byteAt lanes i
+pub byte-at : (lanes : List ℕ) (i : ℕ) → getD lanes (i / 8) 0 / 2 ^ (8 * (i % 8)) % 256 ≡ stateByte lanes i
 byte-at lanes i = ap (λ (y : ℕ). getD lanes (i / 8) 0 / y % 256) (power-256 (i % 8))

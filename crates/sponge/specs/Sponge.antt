@@ -36,12 +36,12 @@ permutedTimes zero state = state
 permutedTimes (suc n) state = keccakF (permutedTimes n state)
 
 -- byte i of the state
-abbrev pub byteAt : List ℕ → ℕ → ℕ
-byteAt state i = digit 256 (getD state (i / 8) 0) (i % 8)
+abbrev pub stateByte : List ℕ → ℕ → ℕ
+stateByte state i = digit 256 (getD state (i / 8) 0) (i % 8)
 
 -- "Let Z = Z || Trunc_r(S)": each permutation gives as many bytes as the rate has, until there are d
 unfoldable pub squeezed : ℕ → List ℕ → ℕ → List ℕ
-squeezed rate state d = listed (λ i. byteAt (permutedTimes (i / rate) state) (i % rate)) 0 d
+squeezed rate state d = listed (λ i. stateByte (permutedTimes (i / rate) state) (i % rate)) 0 d
 
 -- "P = N || pad(r, len(N))", "n = len(P)/r"
 unfoldable pub sponge : ℕ → ℕ → List ℕ → ℕ → List ℕ

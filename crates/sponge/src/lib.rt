@@ -2,7 +2,7 @@
 ghost use mathlib.Core.Path.{_≡_};
 ghost use Prim.Native.Nat.{_<_};
 ghost use lib.ListN.{length};
-ghost use Rattle.sponge.specs.Sponge.{byteAt, squeezed};
+ghost use Rattle.sponge.specs.Sponge.{stateByte, squeezed};
 ghost use Rattle.sponge.specs.Streaming.{rate, spongeOf, fresh, withByte, permutedIfFull, taken, takenAll, filled, finished};
 
 const RATE: usize = 168;
@@ -106,7 +106,7 @@ impl Sponge {
 // Byte i of the lanes.
 fn byte_at(lanes: &[u64; 25], i: usize) -> u8
     requires { ⌜ i < 200 ⌝ }
-    ensures { λ r. ⌜ r ≡ byteAt (now (lanes .entry)) i ⌝ }
+    ensures { λ r. ⌜ r ≡ stateByte (now (lanes .entry)) i ⌝ }
 {
     ((lanes[i / 8] >> (8 * (i % 8))) % 256) as u8
 }

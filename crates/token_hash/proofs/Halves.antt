@@ -15,7 +15,7 @@ use Rattle.basics.proofs.Sum.{sum-same}
 use Rattle.basics.proofs.Digits.{digit-low}
 use Rattle.sponge.proofs.Shifting.{power-256}
 use Rattle.cshake.specs.CShake.{cShake128}
-use Rattle.token_hash.specs.TokenHash.{customization, bytesOf, numberOfBytes, tokenHash}
+use Rattle.token_hash.specs.TokenHash.{customization, tokenBytes, numberOfBytes, tokenHash}
 
 -- ---- the bytes of a number
 
@@ -99,7 +99,7 @@ halves-whole bytes high low h l =
 
 -- the hash of a token by its bytes, the bytes that cSHAKE128 gives of them, and the halves of these
 pub hash-is : (token : ℕ) {bytes out name custom : List ℕ} {high low : ℕ}
-    → bytes ≡ bytesOf token
+    → bytes ≡ tokenBytes token
     → out ≡ cShake128 bytes 16 name custom
     → name ≡ []
     → custom ≡ customization

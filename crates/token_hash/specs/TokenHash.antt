@@ -12,11 +12,11 @@ unfoldable pub customization : List ℕ
 customization = 0x4C ∷ 0x43 ∷ 0x5F ∷ 0x43 ∷ 0x54 ∷ 0x52 ∷ 0x4C ∷ []
 
 -- a number of 128 bits as 16 bytes, the lowest first, and back
-unfoldable pub bytesOf : ℕ → List ℕ
-bytesOf x = listed (digit 256 x) 0 16
+unfoldable pub tokenBytes : ℕ → List ℕ
+tokenBytes x = listed (digit 256 x) 0 16
 
 unfoldable pub numberOfBytes : List ℕ → ℕ
 numberOfBytes bytes = number 256 16 (λ i. getD bytes i 0)
 
 unfoldable pub tokenHash : ℕ → ℕ
-tokenHash token = numberOfBytes (cShake128 (bytesOf token) 16 [] customization)
+tokenHash token = numberOfBytes (cShake128 (tokenBytes token) 16 [] customization)

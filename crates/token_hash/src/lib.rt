@@ -4,7 +4,7 @@ ghost use mathlib.Core.Path.{_≡_};
 ghost use Prim.Native.Nat.{_+_, _*_, _^_, _≤_, _<_};
 ghost use lib.ListN.{getD};
 ghost use Rattle.basics.specs.Digits.{number};
-ghost use Rattle.token_hash.specs.TokenHash.{bytesOf, tokenHash};
+ghost use Rattle.token_hash.specs.TokenHash.{tokenBytes, tokenHash};
 
 fn wide(x: u8) -> u64
     ensures { λ r. ⌜ (r ≡ x) × (r < 256) ⌝ }
@@ -14,7 +14,7 @@ fn wide(x: u8) -> u64
 
 // The 16 bytes of a token, the lowest first.
 fn bytes_of(high: u64, low: u64) -> [u8; 16]
-    ensures { λ r. ⌜ r ≡ bytesOf (high * 2 ^ 64 + low) ⌝ }
+    ensures { λ r. ⌜ r ≡ tokenBytes (high * 2 ^ 64 + low) ⌝ }
 {
     let mut out = [0u8; 16];
     for i in 0..16 {

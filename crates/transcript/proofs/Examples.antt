@@ -14,7 +14,7 @@ use Rattle.basics.specs.Range.{sum, allBelow, firstNot}
 use Rattle.basics.proofs.Choice.{by-cases}
 use Rattle.basics.proofs.Range.{all-at}
 use Rattle.present.specs.Present.{sBox, substitute, place, permute, roundKey, rotateLeft61, substituteTop, keyStep, keyAfter, stateAfter, encryptBlock}
-use Rattle.digest.specs.Digest.{absorb, absorbAll, digestOf, blocksOf, digestWords}
+use Rattle.digest.specs.Digest.{absorb, absorbAll, digestBlocks, blocksOf, digestWords}
 use Rattle.partitions.specs.Map2.{map2}
 use Rattle.partitions.specs.Map.{partition}
 use Rattle.partitions.specs.Maps.{mapOf}
@@ -122,8 +122,8 @@ two-chips = record {
 
 -- 1 is not the digest of a blank HW_CFG1, so that its check fails on both
 other-digest : eqb 1 (digestWords 0 0 (0 ∷ 0 ∷ 0 ∷ 0 ∷ [])) ≡ false
-unfolding everything sum sBox substitute place permute roundKey rotateLeft61 substituteTop keyStep keyAfter stateAfter encryptBlock absorb absorbAll digestOf
-    blocksOf digestWords
+unfolding everything sum sBox substitute place permute roundKey rotateLeft61 substituteTop keyStep keyAfter stateAfter encryptBlock absorb absorbAll
+    digestBlocks blocksOf digestWords
 other-digest = refl
 
 verdict : (x : ℕ) → verdictOf primitives map2 (chipOf (image x) constants .lent) ≡ some 6

@@ -28,7 +28,7 @@ use Rattle.chip.specs.Chip.{primitives, machineOf, resultOf, resultFor}
 use Rattle.chip.proofs.Acting.{admitting, comesTo, said, program-done, program-refused, admitted-result}
 use Rattle.transition.specs.declared.Permit.{Permit}
 use Rattle.transition.specs.declared.Permit.the-variants.{Granted, Refused}
-use Rattle.transition.specs.Permit.{permitOf, unchanged, inert, dead, movedAs}
+use Rattle.transition.specs.Permit.{permitOf, asBefore, inert, dead, movedAs}
 use Rattle.transition.proofs.Tokens.{permittedAct, authorizing}
 
 -- programming takes its place and its words from the definition
@@ -107,7 +107,7 @@ module _ (map : Map) (l : Lent) (s : Session) (target high low : ℕ) where
   decided e a f = admitted-result map x m tt e ∙ ap (λ (a : Act). comesTo a m) f
 
   pub bad-record : admitting map m ≡ none → (leb (s .state) 20 && leb (s .count) 24) ≡ false
-      → (o : Outcome) → o ≡ unchanged s NotReady → resultOf l o ≡ resultFor map x m
+      → (o : Outcome) → o ≡ asBefore s NotReady → resultOf l o ≡ resultFor map x m
   unfolding transitionAct effectOn
   bad-record e r o f = rw f (sym (decided e (refuse NotReady) (if-true _ _ (ap not r)) ∙ said m NotReady noEffect))
 
@@ -119,7 +119,7 @@ module _ (map : Map) (l : Lent) (s : Session) (target high low : ℕ) where
     aimed : target ≤ 20 → (a : Act) → strokeAct ≡ a → resultFor map x m ≡ comesTo a m
     aimed h a f = decided (q .admitted-there) a (good ∙ if-false _ _ (ap not (le-leb _ _ h)) ∙ f)
 
-    pub unknown-target : 20 < target → (o : Outcome) → o ≡ unchanged s UnknownTarget → resultOf l o ≡ resultFor map x m
+    pub unknown-target : 20 < target → (o : Outcome) → o ≡ asBefore s UnknownTarget → resultOf l o ≡ resultFor map x m
     unfolding effectOn
     unknown-target h o f =
         rw f (sym (decided (q .admitted-there) (refuse UnknownTarget) (good ∙ if-true _ _ (ap not (lt-leb _ _ h))) ∙ said m UnknownTarget noEffect))

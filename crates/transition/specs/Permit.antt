@@ -27,8 +27,8 @@ permitOf l free = Granted
 permitOf l (byToken test) = comparedAs (test l)
 
 -- "0x11 changes nothing", nor does a 7
-abbrev pub unchanged : Session → Answer → Outcome
-unchanged s answer = record { session = s; answer = answer }
+abbrev pub asBefore : Session → Answer → Outcome
+asBefore s answer = record { session = s; answer = answer }
 
 -- "Every later answer leaves the phase Inert (Dead 4 after a 4)."
 abbrev pub inert : Session → Answer → Outcome

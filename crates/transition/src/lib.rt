@@ -27,7 +27,7 @@ ghost use Rattle.life_cycle.specs.Transitions.{tableEntry};
 ghost use Rattle.model.specs.declared.Command.{Command};
 ghost use Rattle.model.specs.Commands.{lifeCycleRule, tokenKind, tokenOffset, hashesTo, counterAt, stateAt, lockedToken, authorization};
 ghost use Rattle.chip.specs.Chip.{primitives, lentOf, Executes};
-ghost use Rattle.transition.specs.Permit.{comparedAs, permitOf, unchanged, inert, dead, movedAs};
+ghost use Rattle.transition.specs.Permit.{comparedAs, permitOf, asBefore, inert, dead, movedAs};
 
 // Table and token permit the move, or refuse it with an answer.
 enum Permit {
@@ -36,8 +36,8 @@ enum Permit {
 }
 
 // An answer that changes nothing.
-fn unchanged(session: Session, answer: Answer) -> Outcome
-    ensures { λ r. ⌜ r ≡ unchanged session answer ⌝ }
+fn as_before(session: Session, answer: Answer) -> Outcome
+    ensures { λ r. ⌜ r ≡ asBefore session answer ⌝ }
 {
     Outcome { session, answer }
 }
@@ -221,10 +221,10 @@ pub fn transition(
         return Outcome { session, answer };
     }
     if !((session.state <= SCRAP) & (session.count <= STROKES)) {
-        return unchanged(session, Answer::NotReady);
+        return as_before(session, Answer::NotReady);
     }
     if SCRAP < target {
-        return unchanged(session, Answer::UnknownTarget);
+        return as_before(session, Answer::UnknownTarget);
     }
     if STROKES <= session.count {
         return inert(session, Answer::StrokesUsed);

@@ -6,7 +6,7 @@ use native.Mathlib.Omega.{arith}
 use borrow.Author.Needs.{needs}
 use lib.ListN.{length, drop, length-drop}
 use Rattle.words.proofs.Parts.{rest-slice}
-use Rattle.digest.specs.Digest.{absorb, absorbAll, blocksOf, digestOf, digestWords}
+use Rattle.digest.specs.Digest.{absorb, absorbAll, blocksOf, digestBlocks, digestWords}
 use Rattle.digest.proofs.Chunks.{absorb-from}
 use Rattle.digest.proofs.digest.Statement.{statement}
 use Rattle.digest.proofs.digest.Tie as tie
@@ -37,7 +37,7 @@ absorbed-rest-requires c κs =
     rw (rest-slice ws (c .before .before .loop .at), length-drop) (omega arith)
 
 returns : tie.Need-returns Inv-loop μ-loop
-unfolding digestWords digestOf
+unfolding digestWords digestBlocks
 returns c =
     let l = c .before .before .before .before in
     let o = l .before .before in

@@ -1,5 +1,4 @@
 -- The life cycle in the papers' numbers, each table entered a second time: transitions, state words and counter words; and what follows for tokens.
-use Rattle.basics.specs.Choice.{if_then_else_}
 use Prim.Native.Nat.{ℕ, _+_, _*_, _^_, _≤_, _<_}
 use mathlib.Core.Path.{_≡_}
 use mathlib.Core.Bool.{true}
@@ -7,6 +6,7 @@ use mathlib.Core.List.{List, [], _∷_}
 use mathlib.Core.Logic.{_⊎_}
 use lib.Dec.{eqb, ltb}
 use lib.ListN.{getD, replicate}
+use Rattle.basics.specs.Choice.{if_then_else_}
 use Rattle.basics.specs.Digits.{bit}
 use Rattle.basics.specs.Range.{listed}
 use Rattle.partitions.specs.Map.{Map}

@@ -1,10 +1,10 @@
 -- Read locks: what a lock refuses, until when, and that nothing else looks at it.
-use Rattle.basics.specs.Choice.{if_then_else_}
 use Prim.Native.Nat.{ℕ, _<_}
 use mathlib.Core.Path.{_≡_}
 use mathlib.Core.Bool.{Bool, true}
 use mathlib.Core.List.{List, _∷_}
 use lib.ListN.{length, set}
+use Rattle.basics.specs.Choice.{if_then_else_}
 use Rattle.partitions.specs.Map.{Map, numberAt, partition, partitionAt}
 use Rattle.model.specs.declared.Answer.the-variants.{Done, Denied, NotReady}
 use Rattle.model.specs.declared.Command.{Command}

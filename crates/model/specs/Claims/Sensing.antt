@@ -1,5 +1,4 @@
 -- Sensing: what a power-up finds, and that it stays until the next.
-use Rattle.basics.specs.Choice.{if_then_else_}
 use Prim.Native.Nat.{ℕ, _/_}
 use mathlib.Core.Path.{_≡_}
 use mathlib.Core.Bool.{true, false}
@@ -7,6 +6,7 @@ use mathlib.Core.List.{List, [], _∷_, _++_}
 use mathlib.Core.Option.{none}
 use lib.Dec.{eqb}
 use lib.ListN.{replicate}
+use Rattle.basics.specs.Choice.{if_then_else_}
 use Rattle.basics.specs.Range.{listed}
 use Rattle.partitions.specs.Map.{Map, numberAt, partition, partitionAt, limit, numberOfKind}
 use Rattle.life_cycle.specs.declared.LifeCycle.the-variants.{Valid}

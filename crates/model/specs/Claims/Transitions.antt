@@ -1,5 +1,4 @@
 -- Transitions: which cells each answer leaves, when each is given, what the life cycle words stand for afterwards, and where the stored tokens lie.
-use Rattle.basics.specs.Choice.{if_then_else_}
 use Prim.Native.Nat.{ℕ, suc, _+_, _*_, _/_, _^_, _≤_, _<_}
 use mathlib.Core.Path.{_≡_}
 use mathlib.Core.Bool.{Bool, true, false, _||_}
@@ -7,6 +6,7 @@ use mathlib.Core.List.{List, [], _∷_, _++_}
 use mathlib.Core.Logic.{_↔_, _⊎_}
 use mathlib.Core.Option.{none}
 use lib.Dec.{eqb}
+use Rattle.basics.specs.Choice.{if_then_else_}
 use Rattle.words.specs.Words.{numberOf, partAt}
 use Rattle.words.specs.Programming.{programAnswer}
 use Rattle.partitions.specs.declared.Kind.{Kind}

@@ -7,7 +7,7 @@ use native.Mathlib.Omega.{arith}
 use lib.ListN.{length}
 use Rattle.basics.proofs.Range.{Follows, follows-none, follows-more, follows-all}
 use Rattle.keccak.specs.Permutation.{keccakF}
-use Rattle.sponge.specs.Sponge.{byteAt, permutedTimes, squeezed}
+use Rattle.sponge.specs.Sponge.{stateByte, permutedTimes, squeezed}
 use Rattle.sponge.specs.Streaming.{rate}
 use Rattle.sponge.proofs.Permuting.{tested, permuted-due, permuted-not-due}
 use Rattle.sponge.proofs.squeeze.Statement.{statement}
@@ -15,7 +15,7 @@ use Rattle.sponge.proofs.squeeze.Tie as tie
 
 abbrev Inv-loop : tie.InvT-loop
 Inv-loop out₀ lanes₀ i₀ i-end out lanes i =
-    Follows (λ j. byteAt (permutedTimes (j / rate) lanes₀) (j % rate)) (length out₀) out i × (lanes ≡ permutedTimes ((i - 1) / rate) lanes₀)
+    Follows (λ j. stateByte (permutedTimes (j / rate) lanes₀) (j % rate)) (length out₀) out i × (lanes ≡ permutedTimes ((i - 1) / rate) lanes₀)
 
 abbrev μ-loop : tie.MeasureT-loop
 μ-loop out₀ lanes₀ i₀ i-end out lanes i = i-end - i
@@ -37,7 +37,7 @@ loop-again c =
     (λ w. w .1 ∙ l .loop .inv .1 ∙ permuted-not-due state i (w .0 .left))
     (j .if1 .came)
     in (
-      follows-more (l .loop .inv .0) (omega arith) (c .byte-at .ensures ∙ ap (λ (a : List ℕ). byteAt a (i % rate)) lanes),
+      follows-more (l .loop .inv .0) (omega arith) (c .byte-at .ensures ∙ ap (λ (a : List ℕ). stateByte a (i % rate)) lanes),
       lanes ∙ ap (λ (n : ℕ). permutedTimes (n / rate) state) back,
     )
 

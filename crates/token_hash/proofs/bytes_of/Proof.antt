@@ -5,7 +5,7 @@ use Prim.Native.Nat.{ℕ, _+_, _-_, _*_, _/_, _%_, _^_}
 use native.Mathlib.Omega.{arith}
 use Rattle.basics.specs.Digits.{digit}
 use Rattle.basics.proofs.Range.{Follows, follows-none, follows-more, follows-all}
-use Rattle.token_hash.specs.TokenHash.{bytesOf}
+use Rattle.token_hash.specs.TokenHash.{tokenBytes}
 use Rattle.token_hash.proofs.Halves.{low-byte, high-byte}
 use Rattle.token_hash.proofs.bytes_of.Statement.{statement}
 use Rattle.token_hash.proofs.bytes_of.Tie as tie
@@ -29,7 +29,7 @@ loop-again c =
     (λ w. ap byte (w .1) ∙ high-byte (o .args .high) (o .args .low) (v .i) (o .fits .low .fits) (w .0 .left) (omega arith)) (c .before .if1 .came))
 
 returns : tie.Need-returns Inv-loop μ-loop
-unfolding bytesOf
+unfolding tokenBytes
 returns c = follows-all (c .before .loop .inv) (omega arith)
 
 pub bytes-of-spec : {M : Type 1} → statement M

@@ -55,10 +55,10 @@ returns-2 c =
     let n = c .before in
     let t = n .before .before .before in
     let o = start t .args in
-    bad-record _ (lent (start t) .lent) (o .session) (o .target) _ _ (admitted t) (not-true _ (n .if1 .taken)) _ (c .unchanged .ensures)
+    bad-record _ (lent (start t) .lent) (o .session) (o .target) _ _ (admitted t) (not-true _ (n .if1 .taken)) _ (c .as-before .ensures)
 
 returns-3 : tie.Need-returns-3
-returns-3 c = unknown-target _ _ _ _ _ _ (known (c .before .before)) (c .before .if2 .taken) _ (c .unchanged2 .ensures)
+returns-3 c = unknown-target _ _ _ _ _ _ (known (c .before .before)) (c .before .if2 .taken) _ (c .as-before2 .ensures)
 
 returns-4 : tie.Need-returns-4
 returns-4 c =
