@@ -69,9 +69,8 @@ def look_at_hashes(independent):
 
 
 def frames(independent):
-    """Three frames (a transition and a power-up that are done, checks that fail) and the start of a fourth, and what comes of them: what
-    `machine_steps` is run on."""
-    four = subprocess.run([independent, "frames", "4", "136"], stdout=subprocess.PIPE, check=True).stdout
+    """Three frames and the start of a fourth, and what comes of them: what `machine_steps` is run on."""
+    four = subprocess.run([independent, "frames", "4", "53"], stdout=subprocess.PIPE, check=True).stdout
     cut = four[: 3 * 5120 + 1024]
     return {"stdin": cut, "stdout": subprocess.run([independent, "steps"], input=cut, stdout=subprocess.PIPE, check=True).stdout}
 

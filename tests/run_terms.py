@@ -37,7 +37,6 @@ def move(target, token=0):
 
 
 UP = b"\x07"
-CHECK = b"\x08"
 # The example of document 01.
 EXAMPLE = UP + write(0, 0x12345678) + read(0) + read(0x328)
 

@@ -1,7 +1,6 @@
-"""Bench runs that are made on each map: the 14 cases of document 01, edges, a full provisioning, a life cycle from RAW to SCRAP, power-ups that fail,
-checks on demand."""
-from run_terms import (CHECK, EXAMPLE, GOOD, MAP1, MAP2, RAW_TOKEN, RMA_TOKEN, TEST_EXIT, TEST_UNLOCK, UP, digest, front, lines, lock, move, plain_lines,
-                       read, state, with_word, write)
+"""Bench runs that are made on each map: the 14 cases of document 01, edges, a full provisioning, a life cycle from RAW to SCRAP, power-ups that fail."""
+from run_terms import (EXAMPLE, GOOD, MAP1, MAP2, RAW_TOKEN, RMA_TOKEN, TEST_EXIT, TEST_UNLOCK, UP, digest, front, lines, lock, move, plain_lines, read, state,
+                       with_word, write)
 
 
 def cases(m):
@@ -22,8 +21,8 @@ def cases(m):
     yield ("a read lock hides data and not the digest", UP + lock(0) + read(0x000) + read(first.digest),
            lines((7, 0, 0), (5, 0, 0), (1, 5, 0), (1, 0, 0)), m.blank)
     yield ("RAW to state 1, then only a power-up",
-           UP + move(1, RAW_TOKEN) + read(0) + write(0, 0) + front(device) + digest(device) + lock(0) + move(1, RAW_TOKEN) + CHECK + UP,
-           lines((7, 0, 0), (6, 0, 0), (1, 7, 0), (2, 7, 0), (3, 7, 0), (4, 7, 0), (5, 7, 0), (6, 7, 0), (8, 7, 0), (7, 0, 257)), m.blank)
+           UP + move(1, RAW_TOKEN) + read(0) + write(0, 0) + front(device) + digest(device) + lock(0) + move(1, RAW_TOKEN) + UP,
+           lines((7, 0, 0), (6, 0, 0), (1, 7, 0), (2, 7, 0), (3, 7, 0), (4, 7, 0), (5, 7, 0), (6, 7, 0), (7, 0, 257)), m.blank)
     yield "a wrong token", UP + move(1, RAW_TOKEN ^ 1) + UP, lines((7, 0, 0), (6, 0x23, 0), (7, 0, 256)), m.blank
     yield "RAW to DEV", UP + move(16, RAW_TOKEN) + UP, lines((7, 0, 0), (6, 0x21, 0), (7, 0, 256)), m.blank
     yield "24 strokes used", UP + move(20) + UP, lines((7, 0, 6144), (6, 0x20, 0), (7, 0, 6144)), m.life(24, state(0))
@@ -123,71 +122,6 @@ def failed_power_ups(m):
           lines((7, 0, 0), (2, 0, 0), (4, 0, None), (2, 0, 0), (7, 6, p.number), (1, 7, 0)))
 
 
-def checks(m):
-    """Kind 8 where nothing is locked, where all is and in between. No script brings it to answer 6."""
-    m.run("checks_blank", "checks on demand pass on a blank chip, as often as they are asked for, and answer 7 before the first power-up",
-          CHECK + UP + CHECK * 3 + read(0), lines((8, 7, 0), (7, 0, 0), *[(8, 0, 0)] * 3, (1, 0, 0)))
-    writes = filled(m)
-    written = [(2, 0, 0)] * (len(writes) // len(write(0, 0)))
-    digests = b"".join(digest(p.start) for p in m.hardware) + b"".join(write(p.digest, 0xC0DE + p.number) for p in m.software)
-    digested = [(4, 0, None)] * len(m.hardware) + [(2, 0, 0)] * len(m.software)
-    tries = b"".join(write(p.start, 1) + CHECK for p in m.partitions)
-    m.run("checks_fully_locked", "checks on demand on a chip with all data and digests, before they are sensed and after it, and between refused writes",
-          UP + writes + CHECK + digests + CHECK + UP + CHECK + tries + read(4) + CHECK,
-          lines((7, 0, 0x305), *written, (8, 0, 0), *digested, (8, 0, 0), (7, 0, 0x305), (8, 0, 0), *[(2, 5, 0), (8, 0, 0)] * len(m.partitions),
-                (1, 0, 0x04040408), (8, 0, 0)), m.life(3, state(5)))
-    for chosen in (m.fronts[-1:], m.secrets[1:2], m.fronts[:1] + m.secrets[2:]):
-        some_locked(m, chosen)
-    checks_after_commands(m)
-    checks_off_ready(m)
-
-
-def some_locked(m, chosen):
-    """These partitions alone are sensed locked; the others change and are not checked."""
-    others = [p for p in m.hardware if p not in chosen]
-    m.run("checks_%s_locked" % "_".join(p.name.lower() for p in chosen),
-          "%s alone sensed locked: checks pass before and after writes to the others, their digests, and the power-up that senses these"
-          % " and ".join(p.name for p in chosen),
-          UP + b"".join(write(p.digest - 1, 0x1122334455667788) for p in m.hardware) + b"".join(digest(p.start) for p in chosen) + UP + CHECK
-          + b"".join(write(p.start, 0x99 + p.number) + CHECK for p in m.hardware) + b"".join(digest(p.start) + CHECK for p in others) + UP + CHECK,
-          lines((7, 0, 0), *[(2, 0, 0)] * len(m.hardware), *[(4, 0, None)] * len(chosen), (7, 0, 0), (8, 0, 0),
-                *[line for p in m.hardware for line in ((2, 5 if p in chosen else 0, 0), (8, 0, 0))],
-                *[(4, 0, None), (8, 0, 0)] * len(others), (7, 0, 0), (8, 0, 0)))
-
-
-def checks_after_commands(m):
-    """Digest commands, read locks and transitions that leave Ready."""
-    p, software = m.secrets[0], m.software[0]
-    m.run("checks_before_sensing", "a digest just stored is not sensed: checks pass, after more data too; the power-up then answers 6, and checks 7",
-          UP + write(p.start, 1) + digest(p.start) + CHECK + write(p.start + 8, 2) + CHECK + UP + CHECK,
-          lines((7, 0, 0), (2, 0, 0), (4, 0, None), (8, 0, 0), (2, 0, 0), (8, 0, 0), (7, 6, p.number), (8, 7, 0)))
-    m.run("checks_keep_read_locks", "checks on demand leave a read lock and the sensed data as they are",
-          UP + write(0, 7) + write(m.fronts[0].start, 9) + lock(0) + CHECK + read(0) + read(software.digest) + front(m.fronts[0].start) + UP + CHECK + read(0)
-          + front(m.fronts[0].start) + CHECK,
-          lines((7, 0, 0), (2, 0, 0), (2, 0, 0), (5, 0, 0), (8, 0, 0), (1, 5, 0), (1, 0, 0), (3, 0, 0), (7, 0, 0), (8, 0, 0), (1, 0, 7), (3, 0, 9),
-                (8, 0, 0)))
-    m.run("checks_after_target_21", "a target above 20 leaves Ready, and checks pass", UP + move(21) + CHECK + read(0) + CHECK,
-          lines((7, 0, 0), (6, 0x11, 0), (8, 0, 0), (1, 0, 0), (8, 0, 0)))
-
-
-def checks_off_ready(m):
-    """Phases other than Ready, wrong lengths and wrong constants."""
-    m.run("checks_after_transitions", "after a stroke is spent, on a wrong token, a wrong pair or a move, checks answer 7 until the power-up",
-          UP + move(1, 5) + CHECK + UP + CHECK + move(16) + CHECK + UP + CHECK + move(1, RAW_TOKEN) + CHECK + UP + CHECK,
-          lines((7, 0, 0), (6, 0x23, 0), (8, 7, 0), (7, 0, 0x100), (8, 0, 0), (6, 0x21, 0), (8, 7, 0), (7, 0, 0x200), (8, 0, 0),
-                (6, 0, 0), (8, 7, 0), (7, 0, 0x301), (8, 0, 0)))
-    m.run("checks_without_strokes", "with 24 strokes used checks pass; a transition then answers 0x20 and leaves Ready",
-          UP + CHECK + move(20) + CHECK + UP + CHECK, lines((7, 0, 6144), (8, 0, 0), (6, 0x20, 0), (8, 7, 0), (7, 0, 6144), (8, 0, 0)), m.life(24, state(0)))
-    m.run("checks_on_scrap", "after a move to SCRAP checks answer 7, before the power-up and after it", UP + CHECK + move(20) + CHECK + UP + CHECK,
-          lines((7, 0, 0x113), (8, 0, 0), (6, 0, 0), (8, 7, 0), (7, 7, 0x214), (8, 7, 0)), m.life(1, state(19)))
-    m.run("checks_wrong_constants", "checks on demand with constants that are not valid: 0x12, before 0x07 too", CHECK + UP + CHECK,
-          lines((8, 0x12, 0), (7, 0x12, 0), (8, 0x12, 0)), consts=with_word(GOOD, 123, GOOD[103]))
-    m.run("checks_wrong_length", "checks on demand with an image of wrong length: 0x10, before 0x12 and 0x07", CHECK + UP + CHECK,
-          lines((8, 0x10, 0), (7, 0x10, 0), (8, 0x10, 0)), m.blank[:-1], with_word(GOOD, 123, GOOD[103]))
-    m.run("checks_without_constants", "checks on demand with no constants: 0x10", CHECK + UP + CHECK, lines((8, 0x10, 0), (7, 0x10, 0), (8, 0x10, 0)),
-          consts=None)
-
-
 def wrong_lengths(m):
     """Lengths of image and constants; the script is the example of document 01."""
     wrong = lines((7, 0x10, 0), (2, 0x10, 0), (1, 0x10, 0), (1, 0x10, 0))
@@ -202,5 +136,5 @@ def wrong_lengths(m):
 
 
 for each in (MAP1, MAP2):
-    for subject in (wrong_lengths, all_cases, edges, provisioning, raw_to_scrap, failed_power_ups, checks):
+    for subject in (wrong_lengths, all_cases, edges, provisioning, raw_to_scrap, failed_power_ups):
         subject(each)

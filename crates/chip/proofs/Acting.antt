@@ -1,14 +1,13 @@
 -- A command but power-up is decided as an act, and performed. The idea: once a command is admitted, its result is what its act
--- comes to, and an act is taken apart by what it says, programs, compares or inspects.
+-- comes to, and an act is taken apart by what it says, programs or compares.
 use mathlib.Core.Path.{◌≡◌, refl, sym, ap, ◌∙◌}
 use mathlib.Core.Bool.{Bool, true, false, not}
 use mathlib.Core.List.{List}
 use mathlib.Core.Option.{none, some, Option}
 use Prim.Native.Nat.{ℕ}
 use Rattle.partitions.specs.Map.{Map}
-use Rattle.model.specs.Acts.{Act, perform, Effect, with_comparison, say, after_program, after_inspection, Performed, effect_on, copy_after, program, no_effect}
-use Rattle.model.specs.Acts.{to_failed, compare, inspect}
-use Rattle.model.specs.Lent.{Machine, Lent, sizes_of, with_cells, with_copy}
+use Rattle.model.specs.Acts.{Act, perform, Effect, with_comparison, say, after_program, Performed, effect_on, program, no_effect, compare}
+use Rattle.model.specs.Lent.{Machine, Lent, sizes_of, with_cells}
 use Rattle.model.specs.Step.{unchanged, Result, performed, judgement, act, Step}
 use Rattle.model.specs.declared.Command.{Command}
 use Rattle.model.specs.declared.Answer.{Answer}
@@ -16,7 +15,7 @@ use Rattle.model.specs.Claims.Terms.{not_power_up}
 use Rattle.model.specs.Commands.{ready_act, command_act}
 use Rattle.model.proofs.Steps.{refused-step, accepted-step, obeys-act, not-ready-act}
 use Rattle.model.specs.Session.{is_ready}
-use Rattle.model.specs.declared.Answer.TheVariants.{NotReady, NotBlank, DigestFailed}
+use Rattle.model.specs.declared.Answer.TheVariants.{NotReady, NotBlank}
 use Rattle.model.proofs.Classes.{no-power-up}
 use Rattle.words.specs.declared.Rule.{Rule}
 use Rattle.words.specs.Programming.{program_answer, program_cells}
@@ -41,8 +40,7 @@ comes_to a m = (performed (perform a m.lent) m).result
 -- ---- an act, by what it is
 
 module _ (m : Machine) where
-  pub said : (a : Answer) (t : Effect)
-      → comes_to (say a t) m ≡ record { machine = machine_of (with_copy (copy_after t m.lent.copy) m.lent) (effect_on t m.session); answer = a }
+  pub said : (a : Answer) (t : Effect) → comes_to (say a t) m ≡ record { machine = machine_of m.lent (effect_on t m.session); answer = a }
   unfolding comes_to performed perform
   said a t = refl
 
@@ -71,15 +69,6 @@ module _ (m : Machine) where
     unfolding comes_to perform
     compare-other e = noted _ _ ∙ ap (λ (r : Performed). (performed r m).result) (if-false _ _ e)
 
-  module _ (find : Lent → Option ℕ) (next : Act) where
-    pub inspect-passed : find m.lent ≡ none → comes_to (inspect find next) m ≡ comes_to next m
-    unfolding comes_to performed perform after_inspection
-    inspect-passed e = rw e
-
-    pub inspect-failed : (number : ℕ) → find m.lent ≡ some number → comes_to (inspect find next) m ≡ comes_to (say (DigestFailed number) to_failed) m
-    unfolding comes_to performed perform after_inspection
-    inspect-failed number e = rw e
-
 -- ---- a command that is refused, by its judgement or its admission: nothing changes
 
 pub refused-result : (map : Map) (x : Command) (m : Machine) (answer : Answer) → judgement_of map m ≡ some answer
@@ -93,7 +82,7 @@ module _ (map : Map) (x : Command) (m : Machine) (acts : not_power_up x) where
   decided e = ap (λ (s : Step). s.result) (accepted-step primitives map x m e ∙ obeys-act primitives map x m (no-power-up x acts))
 
   not-ready : judgement_of map m ≡ none → is_ready m.session.phase ≡ false → record { machine = m; answer = NotReady } ≡ result_for map x m
-  unfolding ready_act effect_on copy_after
+  unfolding ready_act effect_on
   not-ready e r = sym (decided e ∙ ap (λ (a : Act). comes_to a m) (not-ready-act primitives map x m r) ∙ said m NotReady no_effect)
 
   pub refused : (answer : Answer) → admitting map m ≡ some answer → record { machine = m; answer = answer } ≡ result_for map x m

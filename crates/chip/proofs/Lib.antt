@@ -1,7 +1,5 @@
 pub mod Judging
-pub mod Verdicts
 pub mod Reading
-pub mod Blocks
 pub mod Acting
 pub mod LifeCyclePlace
 pub mod Theorems

@@ -12,9 +12,7 @@ use Rattle.words.proofs.Parts.{part_slice}
 use Rattle.present.specs.Present.{encrypt_block, decrypt_block}
 use Rattle.digest.specs.Digest.{digest_words}
 use Rattle.partitions.specs.declared.Partition.{Partition}
-use Rattle.partitions.specs.Map.{Map, rights_of, partition, limit}
-use Rattle.partitions.specs.Fitness.{fit}
-use Rattle.partitions.proofs.Map.{partition-fit, end-within}
+use Rattle.partitions.specs.Map.{rights_of}
 use Rattle.constants.specs.Constants.{key_of, digest_start, digest_final}
 use Rattle.model.specs.Commands.{data_words, scrambled, unscrambled, computed_digest}
 use Rattle.chip.specs.Chip.{primitives, digest_within}
@@ -36,13 +34,6 @@ module _ (k : List ℕ) (p : Partition) (block : ℕ) where
   pub secret-back : (rights_of p.kind).scrambled ≡ true → decrypt_block (key_of k p.kind) block ≡ unscrambled primitives k p block
   unfolding unscrambled
   secret-back e = sym (if-true _ _ e)
-
--- a partition's data words lie in the array
-pub data-within : (map : Map) (fits : fit map ≡ true) {n : ℕ} → n < length map
-    → ((partition map n).start / 2 ≤ (partition map n).digest / 2) × ((partition map n).digest / 2 ≤ limit map / 2)
-data-within map fits h =
-    let f = partition-fit map fits h in
-    (omega (arith, f.data-first), omega (arith, f.digest-last, end-within map fits h))
 
 -- the digest over the slice of the data words
 pub data-digest : (k : List ℕ) (p : Partition) (cells : List ℕ) → p.start / 2 ≤ p.digest / 2 → p.digest / 2 ≤ length cells

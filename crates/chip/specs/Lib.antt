@@ -1,3 +1,2 @@
 pub mod Chip
 pub mod Judging
-pub mod Verdicts

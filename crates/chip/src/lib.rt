@@ -1,6 +1,5 @@
 // What commands share: they judge what they are lent, and find keys and digests in it.
-ghost use Rattle.std.specs.Prelude.{◌≡◌, ◌+◌, ◌*◌, ◌^◌, length};
-ghost use Rattle.basics.specs.Range.{listed};
+ghost use Rattle.std.specs.Prelude.{◌≡◌, ◌+◌, ◌*◌, ◌^◌};
 ghost use Rattle.digest.specs.Digest.{digest_words};
 ghost use Rattle.partitions.specs.Maps.{map_of};
 ghost use Rattle.constants.specs.Constants.{key_of, digest_start, digest_final};
@@ -18,13 +17,6 @@ use words::{Halves, block_at, eight_words};
 pub enum Judged {
     Accepted,
     Refused(Answer),
-}
-
-// Checks all passed, or the number of the first partition that failed.
-#[derive(Drop)]
-pub enum Verdict {
-    Passed,
-    Failed(usize),
 }
 
 // Judges the lengths of cells and copy, and the constants, in the paper's order.
@@ -62,19 +54,8 @@ pub fn admit(sizes: Sizes, constants: &[u16], map: MapName, phase: Phase) -> Jud
     }
 }
 
-// Sets the copy to all zero.
-pub fn clear(copy: &mut [u16])
-    ensures { copy.new ≡ listed (λ j. 0) 0 (length copy.old) }
-{
-    let mut j = 0;
-    while j < copy.len() {
-        copy[j] = 0;
-        j += 1;
-    }
-}
-
 // The key of a kind. Only the secrets have one.
-fn key_of(constants: &[u16], kind: Kind) -> Halves
+pub fn key_of(constants: &[u16], kind: Kind) -> Halves
     ensures { result.high * 2 ^ 64 + result.low ≡ key_of constants.now kind }
 {
     match kind {

@@ -39,6 +39,5 @@ pub fn execute(
             transition::transition(cells, &copy[..], constants, map, session, target, token)
         }
         Command::PowerUp => power_up::power_up(&cells[..], copy, constants, map, session),
-        Command::Check => checks::check(&cells[..], copy, constants, map, session),
     }
 }

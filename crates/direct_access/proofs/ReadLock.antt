@@ -10,7 +10,7 @@ use Rattle.model.specs.declared.Answer.TheVariants.{Done, Denied}
 use Rattle.model.specs.declared.Command.TheVariants.{ReadLock}
 use Rattle.model.specs.Session.{with_lock}
 use Rattle.model.specs.Lent.{Machine}
-use Rattle.model.specs.Acts.{lock, effect_on, copy_after, Act}
+use Rattle.model.specs.Acts.{lock, effect_on, Act}
 use Rattle.model.specs.Commands.{read_lock_act, command_act}
 use Rattle.chip.specs.Chip.{result_for}
 use Rattle.chip.proofs.Acting.{admitting, comes_to, said, refused, admitted-result}
@@ -27,5 +27,5 @@ module _ (map : Map) (m : Machine) (n : ℕ) where
 
     pub lock-done : (rights_of (partition map n).kind).lockable ≡ true
         → record { machine = record { lent = m.lent; session = with_lock n m.session }; answer = Done 0 } ≡ result_for map (ReadLock n) m
-    unfolding command_act read_lock_act effect_on copy_after
+    unfolding command_act read_lock_act effect_on
     lock-done e = sym (admitted-result map (ReadLock n) m tt admitted ∙ ap (λ (t : Act). comes_to t m) (if-false _ _ (ap not e)) ∙ said m (Done 0) (lock n))

@@ -19,7 +19,7 @@ use Rattle.model.specs.declared.Answer.{Answer}
 use Rattle.model.specs.declared.Answer.TheVariants.{Done, Denied}
 use Rattle.model.specs.declared.Command.{Command}
 use Rattle.model.specs.Lent.{Machine, with_cells, sizes_of}
-use Rattle.model.specs.Acts.{effect_on, copy_after, no_effect, Act, say, program, refuse}
+use Rattle.model.specs.Acts.{effect_on, no_effect, Act, say, program, refuse}
 use Rattle.model.specs.Step.{Result}
 use Rattle.chip.specs.Chip.{machine_of, result_of, result_for}
 use Rattle.chip.proofs.Acting.{admitting, comes_to, said, program-done, program-refused, refused, admitted-result}
@@ -36,7 +36,7 @@ reached map m a = reached_of map (admitting map m) a
 -- ---- what an act comes to
 
 pub said-only : (m : Machine) (b : Answer) → comes_to (say b no_effect) m ≡ record { machine = m; answer = b }
-unfolding effect_on copy_after
+unfolding effect_on
 said-only m b = said m b no_effect
 
 -- the words are programmed and a value is answered, or a cell refuses and nothing changes

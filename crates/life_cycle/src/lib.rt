@@ -120,8 +120,7 @@ pub fn state_words(constants: &[u16], state: u8) -> [u16; 20]
     words
 }
 
-// Whether two lists of words are the same.
-pub fn same_words(a: &[u16], b: &[u16]) -> bool
+fn same_words(a: &[u16], b: &[u16]) -> bool
     ensures { result ≡ same_words a.now b.now }
 {
     if a.len() != b.len() {

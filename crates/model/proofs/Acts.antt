@@ -2,7 +2,6 @@
 use mathlib.Core.Path.{◌≡◌, refl, ap, ◌∙◌}
 use mathlib.Core.Bool.{Bool, false}
 use mathlib.Core.List.{List}
-use mathlib.Core.Option.{Option, none, some}
 use Prim.Native.Nat.{ℕ, ◌+◌, ◌≤◌, ◌<◌}
 use lib.Dec.{eqb}
 use lib.ListN.{length, get_or}
@@ -13,10 +12,10 @@ use Rattle.words.specs.declared.Programmed.{Programmed}
 use Rattle.words.specs.Programming.{program_answer, program_cells, Kept}
 use Rattle.words.proofs.Programming.{kept_refl, kept_trans, program-kept, program-length, program-elsewhere}
 use Rattle.model.specs.declared.Answer.{Answer}
-use Rattle.model.specs.declared.Answer.TheVariants.{Done, NotBlank, DigestFailed}
+use Rattle.model.specs.declared.Answer.TheVariants.{Done, NotBlank}
 use Rattle.model.specs.Answers.{code_of}
 use Rattle.model.specs.Lent.{Lent, with_cells}
-use Rattle.model.specs.Acts.{Effect, to_failed, Act, say, program, compare, inspect, Performed, after_program, after_inspection, with_comparison, perform}
+use Rattle.model.specs.Acts.{Effect, Act, say, program, compare, Performed, after_program, with_comparison, perform}
 use Rattle.words.specs.declared.Programmed.TheVariants as programmed
 
 -- what holds of a programming that is done and of one that is refused
@@ -30,13 +29,6 @@ pub after-done : {r : Programmed} (next : Performed) (refused : ℕ → Performe
 unfolding after_program
 after-done next refused e = rw e
 
--- what holds of an inspection that finds nothing and of one that finds a fault
-pub inspected-both {ℓ} : (Q : Performed → Type ℓ) (r : Option ℕ) (next : Performed) (failed : ℕ → Performed)
-    → (r ≡ none → Q next) → ((number : ℕ) → r ≡ some number → Q (failed number)) → Q (after_inspection r next failed)
-unfolding after_inspection
-inspected-both Q none next failed f g = f refl
-inspected-both Q (some number) next failed f g = g number refl
-
 -- ---- bits, lengths
 
 pub perform_kept : (x : Act) (l : Lent) → Kept l.cells (perform x l).cells
@@ -47,8 +39,6 @@ perform_kept (program rule at words effect next) l =
     (λ e. kept_trans (program-kept rule l.cells words at) (perform_kept next (with_cells (program_cells rule l.cells at words) l))) (λ cell e. kept_refl)
 perform_kept (compare test same other) l =
     if-both (λ (r : Performed). Kept l.cells r.cells) _ _ _ (λ e. perform_kept same l) (λ e. perform_kept other l)
-perform_kept (inspect find next) l =
-    inspected-both (λ (r : Performed). Kept l.cells r.cells) (find l) _ _ (λ e. perform_kept next l) (λ number e. kept_refl)
 
 pub perform-length : (x : Act) (l : Lent) → length (perform x l).cells ≡ length l.cells
 unfolding perform with_comparison
@@ -58,8 +48,6 @@ perform-length (program rule at words effect next) l =
     (λ e. perform-length next (with_cells (program_cells rule l.cells at words) l) ∙ program-length rule l.cells words at) (λ cell e. refl)
 perform-length (compare test same other) l =
     if-both (λ (r : Performed). length r.cells ≡ length l.cells) _ _ _ (λ e. perform-length same l) (λ e. perform-length other l)
-perform-length (inspect find next) l =
-    inspected-both (λ (r : Performed). length r.cells ≡ length l.cells) (find l) _ _ (λ e. perform-length next l) (λ number e. refl)
 
 -- ---- the frame
 
@@ -68,13 +56,11 @@ pub data Within (P : ℕ → List ℕ → Type 0) : Act → Type 0 where
   says : {answer : Answer} {effect : Effect} → Within P (say answer effect)
   programs : {rule : Rule} {at : ℕ} {words : List ℕ} {effect : Effect} {next : Act} → P at words → Within P next → Within P (program rule at words effect next)
   compares : {test : Lent → Bool} {same other : Act} → Within P same → Within P other → Within P (compare test same other)
-  inspects : {find : Lent → Option ℕ} {next : Act} → Within P next → Within P (inspect find next)
 
 pub within-map : {P Q : ℕ → List ℕ → Type 0} {x : Act} → ((at : ℕ) (words : List ℕ) → P at words → Q at words) → Within P x → Within Q x
 within-map f says = says
 within-map f (programs {at = at} {words = words} h next) = programs (f at words h) (within-map f next)
 within-map f (compares same other) = compares (within-map f same) (within-map f other)
-within-map f (inspects next) = inspects (within-map f next)
 
 -- every word of the piece has P
 abbrev pub Pieces : (ℕ → Type 0) → ℕ → List ℕ → Type 0
@@ -90,35 +76,23 @@ perform-frame (programs {rule = rule} {at = at} {words = words} inside next) l j
     (λ cell e. refl)
 perform-frame (compares {test = test} same other) l j h =
     if-both (λ (r : Performed). get_or r.cells j 0 ≡ get_or l.cells j 0) _ _ _ (λ e. perform-frame same l j h) (λ e. perform-frame other l j h)
-perform-frame (inspects {find = find} next) l j h =
-    inspected-both (λ (r : Performed). get_or r.cells j 0 ≡ get_or l.cells j 0) (find l) _ _ (λ e. perform-frame next l j h) (λ number e. refl)
 
--- ---- the answers that an act may give on what is lent, with the effects that go with them
+-- ---- the answers that an act may give, with the effects that go with them
 
-pub data Gives (T : Answer → Effect → Type 0) : Act → Lent → Type 0 where
-  says : {answer : Answer} {effect : Effect} {l : Lent} → T answer effect → Gives T (say answer effect) l
-  programs : {rule : Rule} {at : ℕ} {words : List ℕ} {effect : Effect} {next : Act} {l : Lent} → ((cell : ℕ) → T (NotBlank cell) effect)
-      → Gives T next (with_cells (program_cells rule l.cells at words) l) → Gives T (program rule at words effect next) l
-  compares : {test : Lent → Bool} {same other : Act} {l : Lent} → Gives T same l → Gives T other l → Gives T (compare test same other) l
-  inspects : {find : Lent → Option ℕ} {next : Act} {l : Lent} → ((number : ℕ) → find l ≡ some number → T (DigestFailed number) to_failed) → Gives T next l
-      → Gives T (inspect find next) l
+pub data Gives (T : Answer → Effect → Type 0) : Act → Type 0 where
+  says : {answer : Answer} {effect : Effect} → T answer effect → Gives T (say answer effect)
+  programs : {rule : Rule} {at : ℕ} {words : List ℕ} {effect : Effect} {next : Act} → ((cell : ℕ) → T (NotBlank cell) effect) → Gives T next
+      → Gives T (program rule at words effect next)
+  compares : {test : Lent → Bool} {same other : Act} → Gives T same → Gives T other → Gives T (compare test same other)
 
-pub perform-gives : {T : Answer → Effect → Type 0} {x : Act} {l : Lent} → Gives T x l → T (perform x l).answer (perform x l).effect
+pub perform-gives : {T : Answer → Effect → Type 0} {x : Act} → Gives T x → (l : Lent) → T (perform x l).answer (perform x l).effect
 unfolding perform with_comparison
-perform-gives (Gives.says h) = h
-perform-gives {T} (Gives.programs {rule = rule} {at = at} {words = words} {l = l} refused next) =
-    after_both (λ (r : Performed). T r.answer r.effect) (program_answer rule l.cells at words) _ _ (λ e. perform-gives next) (λ cell e. refused _)
-perform-gives {T} (Gives.compares {test = test} same other) =
-    if-both (λ (r : Performed). T r.answer r.effect) _ _ _ (λ e. perform-gives same) (λ e. perform-gives other)
-perform-gives {T} (Gives.inspects {find = find} {l = l} failed next) =
-    inspected-both (λ (r : Performed). T r.answer r.effect) (find l) _ _ (λ e. perform-gives next) failed
-
-pub gives-map : {T U : Answer → Effect → Type 0} {x : Act} {l : Lent} → ((answer : Answer) (effect : Effect) → T answer effect → U answer effect) → Gives T x l
-    → Gives U x l
-gives-map f (Gives.says h) = Gives.says (f _ _ h)
-gives-map f (Gives.programs refused next) = Gives.programs (λ cell. f _ _ (refused cell)) (gives-map f next)
-gives-map f (Gives.compares same other) = Gives.compares (gives-map f same) (gives-map f other)
-gives-map f (Gives.inspects failed next) = Gives.inspects (λ number e. f _ _ (failed number e)) (gives-map f next)
+perform-gives (Gives.says h) l = h
+perform-gives {T} (Gives.programs {rule = rule} {at = at} {words = words} refused next) l =
+    after_both (λ (r : Performed). T r.answer r.effect) (program_answer rule l.cells at words) _ _
+    (λ e. perform-gives next (with_cells (program_cells rule l.cells at words) l)) (λ cell e. refused _)
+perform-gives {T} (Gives.compares {test = test} same other) l =
+    if-both (λ (r : Performed). T r.answer r.effect) _ _ _ (λ e. perform-gives same l) (λ e. perform-gives other l)
 
 -- a refusal is not an answer of 0
 pub not_done : {answer : Answer} {value : ℕ} → eqb (code_of answer) 0x00 ≡ false → answer ≡ Done value → ⊥

@@ -1,16 +1,15 @@
--- Two chips that differ only in hidden words answer alike. The idea: both decide the same act, since what an act depends on shows; no inspection finds a fault
--- on either; a performed act changes no hidden word; and hidden partitions stay locked.
+-- Two chips that differ only in hidden words answer alike. The idea: both decide the same act, since what an act depends on shows; a performed
+-- act changes no hidden word; and hidden partitions stay locked.
 use mathlib.Core.Path.{◌≡◌, refl, sym, ap, ap₂, subst, ◌∙◌}
 use mathlib.Core.Bool.{Bool, true, false, ◌&&◌}
 use mathlib.Core.List.{List, [], ◌∷◌}
-use mathlib.Core.Option.{Option, none, some}
 use Prim.Native.Nat.{ℕ, ◌+◌, ◌*◌, ◌/◌, ◌≤◌, ◌<◌}
 use native.Mathlib.Omega.{arith}
 use lib.ListN.{length, get_or}
 use borrow.Author.Tests.{not-false}
 use Rattle.basics.specs.Choice.{if◌then◌else◌}
 use Rattle.basics.specs.Range.{listed}
-use Rattle.basics.proofs.Choice.{by_cases, true-not-false, if-true, if-false, if-same}
+use Rattle.basics.proofs.Choice.{by_cases, true-not-false, not-passed, if-true, if-false, if-same}
 use Rattle.basics.proofs.Range.{length-listed, listed_at, is-listed}
 use Rattle.words.specs.declared.Programmed.{Programmed}
 use Rattle.words.specs.Words.{number_of}
@@ -19,7 +18,7 @@ use Rattle.words.proofs.Parts.{part_same}
 use Rattle.words.proofs.Programming.{answer-same, program-length}
 use Rattle.words.proofs.Alike.{Same, program-alike}
 use Rattle.partitions.specs.Fitness.{fit}
-use Rattle.partitions.proofs.KindRights.{scrambled-direct, front-not-scrambled}
+use Rattle.partitions.proofs.KindRights.{scrambled-direct, front-hardware, front-not-scrambled, lockable-not-hardware}
 use Rattle.partitions.proofs.Map.{inside, partition-fit, partition-word, direct-known}
 use Rattle.partitions.proofs.Granules.{granule-within, word-inside, word_number, digest-word}
 use Rattle.partitions.specs.Map.{Map, rights_of, number_at, partition, partition_at, limit, in_digest, first_word, word_count, number_of_kind}
@@ -27,25 +26,21 @@ use Rattle.model.specs.declared.Answer.{Answer}
 use Rattle.model.specs.declared.Answer.TheVariants.{Done}
 use Rattle.model.specs.declared.Session.{Session}
 use Rattle.model.specs.declared.Command.{Command}
-use Rattle.model.specs.declared.Command.TheVariants.{Read, Write, FrontRead, Digest, ReadLock, Transition, PowerUp, Check}
+use Rattle.model.specs.declared.Command.TheVariants.{Read, Write, FrontRead, Digest, ReadLock, Transition, PowerUp}
 use Rattle.model.specs.Session.{is_ready, sensed_at, sensed_locked, read_locked}
 use Rattle.constants.specs.Constants.{digest_start, digest_final}
 use Rattle.model.specs.Lent.{Machine, Primitives, Lent, with_cells, with_copy}
-use Rattle.model.specs.Acts.{no_effect, effect_on, Act, say, Performed, after_program, after_inspection, with_comparison, perform}
+use Rattle.model.specs.Acts.{no_effect, effect_on, Act, say, Performed, after_program, with_comparison, perform}
 use Rattle.model.specs.Commands.{granule, stored_digest, data_words, computed_digest, unscrambled, counter_at, write_act, read_act, front_read_act, digest_act}
-use Rattle.model.specs.Commands.{read_lock_act, transition_act, move_act, check_act, command_act, ready_act, read_value, authorized_act}
+use Rattle.model.specs.Commands.{read_lock_act, transition_act, move_act, command_act, ready_act, read_value, authorized_act}
 use Rattle.model.specs.PowerUp.{sensed_digest, digests, PowerUpEnd, fails, succeeds, power_up_end, end_of, copy_word, powered_copy, powered_session}
 use Rattle.model.specs.PowerUp.{powered_answer}
 use Rattle.model.specs.Step.{Step, performed, act, power_up, step, after, answers, machine_after}
-use Rattle.model.specs.Claims.Terms.{ValidInputs, Cipher, Digested, not_power_up, Agree, Matched, Hidden, Alike}
-use Rattle.model.proofs.Acts.{Within, says, programs, compares, inspects, within-map, Pieces, Gives, perform-gives}
+use Rattle.model.specs.Claims.Terms.{ValidInputs, Digested, Agree, Matched, Hidden, Alike}
+use Rattle.model.proofs.Acts.{Within, says, programs, compares, within-map, Pieces}
 use Rattle.model.proofs.Frame.{Programmable, unlocked, life_cycle, life-words, life-closed, life-same, act-open}
-use Rattle.model.proofs.Steps.{obey-both, step-obeys, step-up, cells-length}
-use Rattle.model.proofs.Locks.{stored_same}
-use Rattle.model.proofs.CopyWords.{front-copy}
-use Rattle.model.proofs.Refusals.{NotSix, keeps-copy}
-use Rattle.model.proofs.Classes.{by-class}
-use Rattle.model.proofs.Since.{Held, Reached, up-held, step-held, held-sensed, held-passes, first-reached, step-reached}
+use Rattle.model.proofs.Steps.{obey-both, step-obeys, step-up, cells-length, up-inputs, act-inputs}
+use Rattle.model.proofs.Locks.{Locked, up-locked, act-locked}
 use Rattle.model.proofs.Guards.{not-locked, ReadGuards, allowed-below, read-guards, allowed-there, front-open, digest-guards}
 use Rattle.words.specs.declared.Programmed.TheVariants as programmed
 use Rattle.partitions.specs.declared.Kind.TheVariants as kind
@@ -71,36 +66,23 @@ if-same-but-hidden : (Q : Performed → Performed → Type 0) {b b' : Bool} (x y
 if-same-but-hidden Q {b} x y x' y' e f g =
     by_cases b (λ t. rw (if-true x y t, if-true x' y' (sym e ∙ t)) f) (λ t. rw (if-false x y t, if-false x' y' (sym e ∙ t)) g)
 
-inspected-same : (Q : Performed → Performed → Type 0) (r r' : Option ℕ) (x x' : Performed) (f f' : ℕ → Performed)
-    → ((number : ℕ) → r ≡ some number → ⊥) → ((number : ℕ) → r' ≡ some number → ⊥) → Q x x' → Q (after_inspection r x f) (after_inspection r' x' f')
-unfolding after_inspection
-inspected-same Q none none x x' f f' z z' h = h
-inspected-same Q none (some number) x x' f f' z z' h = absurd (z' number refl)
-inspected-same Q (some number) r' x x' f f' z z' h = absurd (z number refl)
-
--- an act on two chips, on neither of which it fails
-perform-same-but-hidden : {P : ℕ → Type 0} {x : Act} → Within (Pieces P) x → (l l' : Lent) → Gives NotSix x l → Gives NotSix x l'
-    → length l.cells ≡ length l'.cells
+perform-same-but-hidden : {P : ℕ → Type 0} {x : Act} → Within (Pieces P) x → (l l' : Lent) → length l.cells ≡ length l'.cells
     → Same P l.cells l'.cells
     → SameButHidden P (perform x l) (perform x l')
 unfolding perform with_comparison
-perform-same-but-hidden says l l' n n' e h = λ g. record { answer = refl; effect = refl; cells = h }
-perform-same-but-hidden {P} (programs {rule = rule} {at = at} {words = words} inside next) l l' (Gives.programs z n) (Gives.programs z' n') e h =
+perform-same-but-hidden says l l' e h = λ g. record { answer = refl; effect = refl; cells = h }
+perform-same-but-hidden {P} (programs {rule = rule} {at = at} {words = words} inside next) l l' e h =
     let c = l.cells in
     let d = l'.cells in
     let q : program_answer rule c at words ≡ program_answer rule d at words = answer-same rule words c d at (λ j lo hi. h.at j (inside j lo hi)) in
     rw (← q)
     (after-same-but-hidden (SameButHidden P) (program_answer rule c at words) _ _ _ _
-    (perform-same-but-hidden next (with_cells (program_cells rule c at words) l) (with_cells (program_cells rule d at words) l') n n'
+    (perform-same-but-hidden next (with_cells (program_cells rule c at words) l) (with_cells (program_cells rule d at words) l')
     (rw (program-length rule c words at, program-length rule d words at) e) (program-alike rule words c d at e h q))
     (λ cell g. record { answer = refl; effect = refl; cells = h }))
-perform-same-but-hidden {P} (compares {test = test} same other) l l' (Gives.compares n o) (Gives.compares n' o') e h = λ g.
-    let r = if-same-but-hidden (SameButHidden P) _ _ _ _ g.0 (perform-same-but-hidden same l l' n n' e h) (perform-same-but-hidden other l l' o o' e h)
-    g.1 in
+perform-same-but-hidden {P} (compares {test = test} same other) l l' e h = λ g.
+    let r = if-same-but-hidden (SameButHidden P) _ _ _ _ g.0 (perform-same-but-hidden same l l' e h) (perform-same-but-hidden other l l' e h) g.1 in
     record { answer = r.answer; effect = r.effect; cells = r.cells }
-perform-same-but-hidden {P} (inspects {find = find} next) l l' (Gives.inspects z n) (Gives.inspects z' n') e h =
-    inspected-same (SameButHidden P) (find l) (find l') _ _ _ _ (λ number q. z number q refl) (λ number q. z' number q refl)
-    (perform-same-but-hidden next l l' n n' e h)
 
 -- ---- what shows, where partitions with H hide their data
 
@@ -188,7 +170,7 @@ module _ (prims : Primitives) (map : Map) (F : fit map ≡ true) (H : ℕ → Ty
 
     -- both chips decide the same
     command-same : (x : Command) → is_ready s.phase ≡ true → command_act prims map (chip l s) x ≡ command_act prims map (chip (second l d k') s) x
-    unfolding command_act write_act read_act front_read_act digest_act read_lock_act transition_act authorized_act move_act check_act
+    unfolding command_act write_act read_act front_read_act digest_act read_lock_act transition_act authorized_act move_act
     command-same (Write a value) r = refl
     command-same (Read a) r = if-same (λ e. refl) λ e.
         ap (λ (x : ℕ). say (Done x) no_effect) (value_same a (allowed-below map a _ e) r (read-guards (partition_at map a) a (allowed-there map a _ e)))
@@ -200,7 +182,6 @@ module _ (prims : Primitives) (map : Map) (F : fit map ≡ true) (H : ℕ → Ty
     command-same (ReadLock number) r = refl
     command-same (Transition target high low) r = refl
     command-same PowerUp r = refl
-    command-same Check r = refl
 
     pub decided-same : (x : Command) → ready_act prims map (chip l s) x ≡ ready_act prims map (chip (second l d k') s) x
     unfolding ready_act
@@ -218,6 +199,13 @@ unfolding partition_at
 front-shown map H secret j f = record { shows = λ v u. true-not-false (secret _ v) (front-not-scrambled _ f.front) }
 
 module _ (prims : Primitives) (map : Map) where
+  -- a word that front reads see is latched as it stands
+  pub front-latched : (constants cells : List ℕ) (j : ℕ) → (rights_of (partition_at map (2 * j)).kind).front ≡ true
+      → copy_word prims map constants cells j ≡ get_or cells j 0
+  unfolding copy_word
+  front-latched constants cells j f =
+      if-false _ _ (not-passed _ (λ t. true-not-false (front-hardware _ f) (lockable-not-hardware _ t))) ∙ rw (front-not-scrambled _ f) (if-false _ _ refl)
+
   digests-same : (c d : List ℕ) →
       ((n : ℕ) → (rights_of (partition map n).kind).direct ≡ true → stored_digest (partition map n) c ≡ stored_digest (partition map n) d)
       → digests c map ≡ digests d map
@@ -231,10 +219,13 @@ module _ (prims : Primitives) (map : Map) (F : fit map ≡ true) (H : ℕ → Ty
   digested = hidden-digested prims map F H known secret
 
   pub record Pair (m n : Machine) : Type 0 where
+    pub right : ValidInputs map m
+    pub right_too : ValidInputs map n
     pub fuses : Same (Shown map H) m.lent.cells n.lent.cells
     pub views : Same (FrontWord map H) m.lent.copy n.lent.copy
     pub constants : m.lent.constants ≡ n.lent.constants
     pub records : m.session ≡ n.session
+    pub locks : (p : ℕ) (h : H p) → Locked prims map F p (digested p h) m
 
   pub record SamePair (s u : Step) : Type 0 where
     pub answer : s.result.answer ≡ u.result.answer
@@ -268,8 +259,8 @@ module _ (prims : Primitives) (map : Map) (F : fit map ≡ true) (H : ℕ → Ty
       word : (j : ℕ) → FrontWord map H j
           → get_or (listed (copy_word prims map t c) 0 (limit map / 2)) j 0 ≡ get_or (listed (copy_word prims map t d) 0 (limit map / 2)) j 0
       word j f =
-          listed_at (copy_word prims map t c) 0 _ j f.low ∙ front-copy prims map t c j f.front ∙ h.at j (front-shown map H secret j f)
-          ∙ sym (listed_at (copy_word prims map t d) 0 _ j f.low ∙ front-copy prims map t d j f.front)
+          listed_at (copy_word prims map t c) 0 _ j f.low ∙ front-latched prims map t c j f.front ∙ h.at j (front-shown map H secret j f)
+          ∙ sym (listed_at (copy_word prims map t d) 0 _ j f.low ∙ front-latched prims map t d j f.front)
 
   powered-views : (w : PowerUpEnd) (l : Lent) (d k' : List ℕ) → Same (Shown map H) l.cells d
       → Same (FrontWord map H) (powered_copy prims map w l) (powered_copy prims map w (second l d k'))
@@ -284,114 +275,97 @@ module _ (prims : Primitives) (map : Map) (F : fit map ≡ true) (H : ℕ → Ty
   powered-records (succeeds state count) l d k' h =
       rw (digests-same prims map l.cells d (λ n e. stored-alike l.cells d h n (direct-known map n e) e))
 
-  up_second : (l : Lent) (d k' : List ℕ) (s s' : Session) → Same (Shown map H) l.cells d
+  up_second : (l : Lent) (d k' : List ℕ) (s s' : Session) → ValidInputs map (chip l s) → ValidInputs map (chip (second l d k') s')
+      → Same (Shown map H) l.cells d
+      → ((p : ℕ) → H p → stored_digest (partition map p) l.cells ≡ 0 → ⊥)
       → Agree (power_up prims map (chip l s)).verdicts (power_up prims map (chip (second l d k') s')).verdicts
       → SamePair (power_up prims map (chip l s)) (power_up prims map (chip (second l d k') s'))
   unfolding power_up power_up_end
-  up_second l d k' s s' h g =
+  up_second l d k' s s' r r' h z g =
       let e = ap₂ end_of (sym g.0) (sym (life-same prims map F l (second l d k') refl (λ j lo hi. h.at j (life-shown j lo hi)))) in
       record {
         answer = ap (powered_answer) (sym e);
         pair = record {
+          right = up-inputs prims map (chip l s) r;
+          right_too = up-inputs prims map (chip (second l d k') s') r';
           fuses = h;
           views = rw e (powered-views _ l d k' h);
           constants = refl;
           records = rw e (powered-records _ l d k' h);
+          locks = λ p v. up-locked prims map F p (digested p v) (chip l s) (z p v);
         };
       }
 
-  up-pair : (m n : Machine) → Same (Shown map H) m.lent.cells n.lent.cells → m.lent.constants ≡ n.lent.constants
+  up-pair : (m n : Machine) → ValidInputs map m → ValidInputs map n → Same (Shown map H) m.lent.cells n.lent.cells
+      → m.lent.constants ≡ n.lent.constants
+      → ((p : ℕ) → H p → stored_digest (partition map p) m.lent.cells ≡ 0 → ⊥)
       → Agree (power_up prims map m).verdicts (power_up prims map n).verdicts → SamePair (power_up prims map m) (power_up prims map n)
-  up-pair m n h e g =
-      let to : Machine → Type 0 = λ q. Agree (power_up prims map m).verdicts (power_up prims map q).verdicts
+  up-pair m n r r' h e z g =
+      let to : Machine → Type 0 = λ q. ValidInputs map q → Agree (power_up prims map m).verdicts (power_up prims map q).verdicts
       → SamePair (power_up prims map m) (power_up prims map q) in
-      subst to (is-second m n e m.session n.session refl) (up_second m.lent n.lent.cells n.lent.copy m.session n.session h) g
+      subst to (is-second m n e m.session n.session refl)
+      (λ q f. up_second m.lent n.lent.cells n.lent.copy m.session n.session r q h z f) r' g
 
-  -- ---- both are reached from a power-up that found the hidden partitions locked
-
-  pub record BothReached (m n : Machine) : Type 0 where
-    pub found : List ℕ
-    pub held : Held prims map F found m
-    pub locks : (p : ℕ) → H p → stored_digest (partition map p) found ≡ 0 → ⊥
-    pub reached : Reached prims map F n
-
-  pub first-both-reached : (m n : Machine) → ValidInputs map m → ValidInputs map n → ((p : ℕ) → H p → stored_digest (partition map p) m.lent.cells ≡ 0 → ⊥)
-      → BothReached (machine_after prims map PowerUp m) (machine_after prims map PowerUp n)
-  first-both-reached m n r r' z = record { found = m.lent.cells; held = up-held prims map F m r; locks = z; reached = first-reached prims map F n r' }
-
-  step-both-reached : (x : Command) (m n : Machine) → BothReached m n → BothReached (machine_after prims map x m) (machine_after prims map x n)
-  step-both-reached =
-      by-class (λ (x : Command). (m n : Machine) → BothReached m n → BothReached (machine_after prims map x m) (machine_after prims map x n))
-      (λ m n b. first-both-reached m n b.held.right b.reached.held.right
-      (λ p v z. b.locks p v (stored_same prims map F p (digested p v) b.found m.lent.cells (b.held.locked p (digested p v) (b.locks p v)) ∙ z)))
-      (λ target high low m n. goes (Transition target high low) tt m n) (λ x e m n. goes x (rw (e, not_power_up) tt) m n)
-    where
-      goes : (x : Command) → not_power_up x → (m n : Machine) → BothReached m n → BothReached (machine_after prims map x m) (machine_after prims map x n)
-      goes x u m n b = record {
-        found = b.found;
-        held = step-held prims map F b.found x m u b.held;
-        locks = b.locks;
-        reached = step-reached prims map F x n b.reached;
-      }
+  pub first-pair : (m n : Machine) → ValidInputs map m → ValidInputs map n → Same (Shown map H) m.lent.cells n.lent.cells
+      → m.lent.constants ≡ n.lent.constants
+      → ((p : ℕ) → H p → stored_digest (partition map p) m.lent.cells ≡ 0 → ⊥)
+      → Agree (step prims map PowerUp m).verdicts (step prims map PowerUp n).verdicts → SamePair (step prims map PowerUp m) (step prims map PowerUp n)
+  first-pair m n r r' h e z = rw (step-up prims map m r, step-up prims map n r') (up-pair m n r r' h e z)
 
   -- ---- an act
 
-  module _ (x : Command) (m n : Machine) (b : BothReached m n) (h : Pair m n) where
-    sensed : (p : ℕ) → H p → is_ready m.session.phase ≡ true → sensed_at m.session p ≡ 0 → ⊥
-    sensed p v = held-sensed prims map F b.found m b.held p (digested p v) (b.locks p v)
+  decided : (x : Command) (m n : Machine) → Pair m n → ready_act prims map n x ≡ ready_act prims map m x
+  decided x m n h =
+      subst (λ (q : Machine). ready_act prims map q x ≡ ready_act prims map m x) (is-second m n h.constants m.session m.session h.records)
+      (sym (decided-same prims map F H known secret m.session (λ p v. (h.locks p v).is_sensed) m.lent n.lent.cells n.lent.copy h.fuses
+      h.views x))
 
-    decided : ready_act prims map n x ≡ ready_act prims map m x
-    decided =
-        subst (λ (q : Machine). ready_act prims map q x ≡ ready_act prims map m x) (is-second m n h.constants m.session m.session h.records)
-        (sym (decided-same prims map F H known secret m.session sensed m.lent n.lent.cells n.lent.copy h.fuses h.views x))
+  -- no hidden word is programmed
+  shown-within : (x : Command) (m n : Machine) → Pair m n → Within (Pieces (Shown map H)) (ready_act prims map m x)
+  shown-within x m n h = within-map (λ at words f j lo hi. go j (f j lo hi)) (act-open prims map F m x)
+    where
+      go : (j : ℕ) → Programmable map x m.session j → Shown map H j
+      go j (unlocked r d z aim) = record { shows = λ v u. (h.locks _ v).is_sensed r z }
+      go j (life_cycle r t e) = closed-shown j e
 
-    -- no hidden word is programmed
-    shown-within : Within (Pieces (Shown map H)) (ready_act prims map m x)
-    shown-within = within-map (λ at words f j lo hi. go j (f j lo hi)) (act-open prims map F m x)
-      where
-        go : (j : ℕ) → Programmable map x m.session j → Shown map H j
-        go j (unlocked r d z aim) = record { shows = λ v u. sensed _ v r z }
-        go j (life_cycle r t e) = closed-shown j e
+  act-pair : (x : Command) (m n : Machine) → Pair m n → Agree (act prims map x m).compared (act prims map x n).compared
+      → SamePair (act prims map x m) (act prims map x n)
+  unfolding act performed
+  act-pair x m n h g =
+      let e = decided x m n h in
+      let lengths = cells-length prims map m h.right ∙ sym (cells-length prims map n h.right_too) in
+      let r = perform-same-but-hidden (shown-within x m n h) m.lent n.lent lengths h.fuses (rw e at g) in
+      rw e (record {
+        answer = r.answer;
+        pair = record {
+          right = act-inputs prims map x m h.right;
+          right_too = rw e at (act-inputs prims map x n h.right_too);
+          fuses = r.cells;
+          views = h.views;
+          constants = h.constants;
+          records = ap₂ effect_on r.effect h.records;
+          locks = λ p v. act-locked prims map F p (digested p v) x m (h.locks p v);
+        };
+      })
 
-    act-pair : Cipher prims → Agree (act prims map x m).compared (act prims map x n).compared → SamePair (act prims map x m) (act prims map x n)
-    unfolding act performed
-    act-pair C g =
-        let e = decided in
-        let passes = held-passes prims map F C b.found m b.held x in
-        let passes' = held-passes prims map F C b.reached.found n b.reached.held x in
-        let kept = perform-gives (keeps-copy prims map m x) (perform-gives passes) in
-        let kept' = perform-gives (keeps-copy prims map n x) (perform-gives passes') in
-        let lengths = cells-length prims map m b.held.right ∙ sym (cells-length prims map n b.reached.held.right) in
-        let r = perform-same-but-hidden shown-within m.lent n.lent passes (rw e at passes') lengths h.fuses (rw e at g) in
-        rw e (record {
-          answer = r.answer;
-          pair = record {
-            fuses = r.cells;
-            views = rw (kept, rw e at kept') h.views;
-            constants = h.constants;
-            records = ap₂ effect_on r.effect h.records;
-          };
-        })
+  pub step-pair : (x : Command) (m n : Machine) → Pair m n → Agree (step prims map x m).compared (step prims map x n).compared
+      → Agree (step prims map x m).verdicts (step prims map x n).verdicts → SamePair (step prims map x m) (step prims map x n)
+  step-pair x m n h = rw (step-obeys prims map x m h.right, step-obeys prims map x n h.right_too)
+      (obey-both prims map (λ s u. Agree s.compared u.compared → Agree s.verdicts u.verdicts → SamePair s u) x m n
+      (λ a v. up-pair m n h.right h.right_too h.fuses h.constants (λ p w. (h.locks p w).burnt) v) (λ a v. act-pair x m n h a))
 
-  module _ (C : Cipher prims) where
-    step-pair : (x : Command) (m n : Machine) → BothReached m n → Pair m n → Agree (step prims map x m).compared (step prims map x n).compared
-        → Agree (step prims map x m).verdicts (step prims map x n).verdicts → SamePair (step prims map x m) (step prims map x n)
-    step-pair x m n b h = rw (step-obeys prims map x m b.held.right, step-obeys prims map x n b.reached.held.right)
-        (obey-both prims map (λ s u. Agree s.compared u.compared → Agree s.verdicts u.verdicts → SamePair s u) x m n
-        (λ a v. up-pair m n h.fuses h.constants v) (λ a v. act-pair x m n b h C a))
-
-    pub after-pair : (l : List Command) (m n : Machine) → BothReached m n → Pair m n → Matched prims map l m n
-        → (answers prims map l m ≡ answers prims map l n) × Pair (after prims map l m) (after prims map l n)
-    unfolding answers after Matched
-    after-pair [] m n b h g = (refl, h)
-    after-pair (x ∷ l) m n b h g =
-        let o = step-pair x m n b h g.0 g.1 in
-        let r = after-pair l (machine_after prims map x m) (machine_after prims map x n) (step-both-reached x m n b) o.pair g.2 in
-        (ap₂ (λ (a : Answer) (rest : List Answer). a ∷ rest) o.answer r.0, r.1)
+  pub after-pair : (l : List Command) (m n : Machine) → Pair m n → Matched prims map l m n
+      → (answers prims map l m ≡ answers prims map l n) × Pair (after prims map l m) (after prims map l n)
+  unfolding answers after Matched
+  after-pair [] m n h g = (refl, h)
+  after-pair (x ∷ l) m n h g =
+      let o = step-pair x m n h g.0 g.1 in
+      let r = after-pair l (machine_after prims map x m) (machine_after prims map x n) o.pair g.2 in
+      (ap₂ (λ (a : Answer) (rest : List Answer). a ∷ rest) o.answer r.0, r.1)
 
 -- ---- the theorem
 
-pub two-chips : (prims : Primitives) → Cipher prims → (map : Map) → fit map ≡ true → (m n : Machine) → ValidInputs map m → ValidInputs map n
+pub two-chips : (prims : Primitives) (map : Map) → fit map ≡ true → (m n : Machine) → ValidInputs map m → ValidInputs map n
     → m.lent.constants ≡ n.lent.constants
     → Alike map m.lent.cells n.lent.cells m.lent.cells n.lent.cells
     → (l : List Command) → Matched prims map (PowerUp ∷ l) m n
@@ -399,17 +373,13 @@ pub two-chips : (prims : Primitives) → Cipher prims → (map : Map) → fit ma
     × ((after prims map (PowerUp ∷ l) m).session ≡ (after prims map (PowerUp ∷ l) n).session)
     × Alike map m.lent.cells n.lent.cells (after prims map (PowerUp ∷ l) m).lent.cells (after prims map (PowerUp ∷ l) n).lent.cells
 unfolding answers after Matched
-two-chips prims C map F m n r r' e h l g =
+two-chips prims map F m n r r' e h l g =
     let H = Hidden map m.lent.cells n.lent.cells in
     let same : Same (Shown map H) m.lent.cells n.lent.cells = record { at = λ j q. h.at j (λ w. q.shows w.hidden w.is_data) } in
-    let up : Agree (step prims map PowerUp m).verdicts (step prims map PowerUp n).verdicts
-    → SamePair prims map F H (λ p v. v.known) (λ p v. v.secret) (step prims map PowerUp m) (step prims map PowerUp n)
-    = rw (step-up prims map m r, step-up prims map n r') (up-pair prims map F H (λ p v. v.known) (λ p v. v.secret) m n same e) in
-    let o = up g.1 in
-    let b = first-both-reached prims map F H (λ p v. v.known) (λ p v. v.secret) m n r r' (λ p v. v.nonzero) in
+    let o = first-pair prims map F H (λ p v. v.known) (λ p v. v.secret) m n r r' same e (λ p v. v.nonzero) g.1 in
     let m₁ = machine_after prims map PowerUp m in
     let n₁ = machine_after prims map PowerUp n in
-    let t = after-pair prims map F H (λ p v. v.known) (λ p v. v.secret) C l m₁ n₁ b o.pair g.2 in (
+    let t = after-pair prims map F H (λ p v. v.known) (λ p v. v.secret) l m₁ n₁ o.pair g.2 in (
       ap₂ (λ (a : Answer) (rest : List Answer). a ∷ rest) o.answer t.0,
       t.1.records,
       record { at = λ j q. t.1.fuses.at j (record { shows = λ v u. q (record { hidden = v; is_data = u }) }) },

@@ -4,7 +4,7 @@ use Prim.Native.Nat.{ℕ}
 use native.Mathlib.Omega.{arith}
 use Rattle.model.specs.declared.Answer.{Answer}
 use Rattle.model.specs.declared.Command.{Command}
-use Rattle.model.specs.declared.Command.TheVariants.{Read, Write, FrontRead, Digest, ReadLock, Transition, PowerUp, Check}
+use Rattle.model.specs.declared.Command.TheVariants.{Read, Write, FrontRead, Digest, ReadLock, Transition, PowerUp}
 use Rattle.model.specs.Commands.{class_of, sensing, transiting, access}
 use Rattle.model.specs.Claims.Terms.{not_power_up, quiet, stays_ready, Writing, writing_of, writes_at, digests_at, writes_nothing}
 use Rattle.model.specs.Claims.Classes.{Classes}
@@ -18,7 +18,6 @@ by-class Q f g h (Digest a) = h (Digest a) refl
 by-class Q f g h (ReadLock number) = h (ReadLock number) refl
 by-class Q f g h (Transition target high low) = g target high low
 by-class Q f g h PowerUp = f
-by-class Q f g h Check = h Check refl
 
 -- a write, a digest command, or a command that writes nothing by direct access
 pub by-writing {ℓ} : (Q : Command → Type ℓ) → ((a value : ℕ) → Q (Write a value)) → ((a : ℕ) → Q (Digest a))
@@ -30,7 +29,6 @@ by-writing Q f g h (Digest a) = g a
 by-writing Q f g h (ReadLock number) = h (ReadLock number) refl
 by-writing Q f g h (Transition target high low) = h (Transition target high low) refl
 by-writing Q f g h PowerUp = h PowerUp refl
-by-writing Q f g h Check = h Check refl
 
 -- ---- what the terms of the claims say of a class
 

@@ -25,11 +25,11 @@ use Rattle.constants.specs.Constants.{raw_unlock_hash}
 use Rattle.model.specs.Lent.{Machine, Primitives, Lent}
 use Rattle.model.specs.Acts.{to_inert, Act, say, Performed, perform, with_comparison, after_program}
 use Rattle.model.specs.Commands.{life_cycle_rule, counter_at, state_at, move_act, transition_act, command_act, ready_act, hashes_to, stored_token, authorization}
-use Rattle.model.specs.Commands.{Authorization, authorized_act, locked_token, token_authorization, free, by_token, first_fault, class_of, transiting}
+use Rattle.model.specs.Commands.{Authorization, authorized_act, locked_token, token_authorization, free, by_token, class_of, transiting}
 use Rattle.model.specs.Step.{Step, unchanged, performed, act, obey, step, power_up}
 use Rattle.model.specs.Claims.Refusals.{judgement_code}
 use Rattle.model.specs.declared.Command.{Command}
-use Rattle.model.proofs.Acts.{after_both, inspected-both}
+use Rattle.model.proofs.Acts.{after_both}
 use Rattle.model.proofs.Steps.{step_both, obeys-act}
 use Rattle.model.proofs.Forms.{Form, act-form}
 use Rattle.model.proofs.Classes.{by-class, no-power-up, quiet-not-power-up, access-quiet}
@@ -196,8 +196,6 @@ module _ (prims : Primitives) (map : Map) (m : Machine) where
   form-none n (Form.writes w) = after_none _ _ _ refl (λ cell. refl)
   form-none n (Form.digests w) = after_none _ _ _ refl (λ cell. refl)
   form-none n (Form.used t u) = absurd (n refl)
-  form-none n (Form.checks r) =
-      inspected-both (λ (r : Performed). r.compared ≡ []) (first_fault prims map m.session m.lent) _ _ (λ e. refl) (λ number e. refl)
   form-none n (Form.spends t u) = absurd (n refl)
 
   act-none : (x : Command) → (class_of x ≡ transiting → ⊥) → (act prims map x m).compared ≡ []

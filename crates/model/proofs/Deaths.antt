@@ -1,5 +1,5 @@
 -- A phase that becomes Dead carries the code that was answered. The idea: a power-up that fails names its reason with its answer, and of the other
--- commands only an act that answers 4 or 6 makes the phase Dead.
+-- commands only an act that answers 4 makes the phase Dead.
 use mathlib.Core.Path.{◌≡◌, refl, ap, ◌∙◌}
 use mathlib.Core.Bool.{true}
 use mathlib.Core.Option.{Option, none, some}
@@ -19,7 +19,7 @@ use Rattle.model.specs.declared.Command.{Command}
 use Rattle.model.specs.Session.{reason_code, is_ready}
 use Rattle.model.specs.Answers.{code_of}
 use Rattle.model.specs.Lent.{Lent, Machine, Primitives}
-use Rattle.model.specs.Acts.{Effect, no_effect, lock, to_inert, to_dead, to_failed, effect_on}
+use Rattle.model.specs.Acts.{Effect, no_effect, lock, to_inert, to_dead, effect_on}
 use Rattle.model.specs.Commands.{ready_act}
 use Rattle.model.specs.PowerUp.{PowerUpEnd, life_cycle_end, end_of, power_up_end, powered_session, powered_answer}
 use Rattle.model.specs.Step.{Step, unchanged, performed, act, power_up, step}
@@ -42,39 +42,30 @@ not_dead {reason = BitCleared} e z = omega (arith, ap dead-code e, z)
 not_dead {reason = DigestFailed} e z = omega (arith, ap dead-code e, z)
 not_dead {reason = LifeCycleFailed} e z = omega (arith, ap dead-code e, z)
 
--- at the end of an act a 4 makes the phase Dead 4, a 6 makes it Dead 6, and no other answer makes it Dead
-abbrev DeadByCode : Answer → Effect → Type 0
-DeadByCode answer no_effect = Unit {0}
-DeadByCode answer (lock number) = Unit {0}
-DeadByCode answer to_inert = Unit {0}
-DeadByCode answer to_dead = code_of answer ≡ 0x04
-DeadByCode answer to_failed = code_of answer ≡ 0x06
+-- only a 4 makes the chip Dead at the end of an act
+abbrev DeadWithFour : Answer → Effect → Type 0
+DeadWithFour answer no_effect = Unit {0}
+DeadWithFour answer (lock number) = Unit {0}
+DeadWithFour answer to_inert = Unit {0}
+DeadWithFour answer to_dead = code_of answer ≡ 0x04
 
-dead-by-code-ends : Ends DeadByCode
-dead-by-code-ends = record { not-blank = λ cell. refl; moved = tt; forbidden = tt; token_unlocked = tt; differs = tt }
+dead-with-four-ends : Ends DeadWithFour
+dead-with-four-ends = record { not-blank = λ cell. refl; moved = tt; forbidden = tt; token_unlocked = tt; differs = tt }
 
 module _ (prims : Primitives) (map : Map) (m : Machine) where
-  act-dead-by-code : (x : Command) → Gives DeadByCode (ready_act prims map m x) m.lent
-  act-dead-by-code x =
-      act-gives prims map m (record {
-        refused = λ r. tt;
-        done = λ q value. tt;
-        not_blank = λ q cell. tt;
-        locked = λ n e. tt;
-        used = λ e. tt;
-        spent = λ e. dead-by-code-ends;
-        failed = λ e r number f. refl;
-      })
+  act-dead-with-four : (x : Command) → Gives DeadWithFour (ready_act prims map m x)
+  act-dead-with-four x =
+      act-gives prims map m
+      (record { refused = λ r. tt; done = λ q value. tt; not_blank = λ q cell. tt; locked = λ n e. tt; used = λ e. tt; spent = λ e. dead-with-four-ends })
 
-  -- a phase that is Ready becomes Dead by the effects `toDead` and `toFailed`
-  effect-dead : (answer : Answer) (effect : Effect) (s : Session) {reason : Reason} → DeadByCode answer effect → is_ready s.phase ≡ true
+  -- a phase that is Ready becomes Dead by the effect `toDead`
+  effect-dead : (answer : Answer) (effect : Effect) (s : Session) {reason : Reason} → DeadWithFour answer effect → is_ready s.phase ≡ true
       → (effect_on effect s).phase ≡ Dead reason → code_of answer ≡ reason_code reason
   unfolding effect_on is_ready dead-code
   effect-dead answer no_effect s d r e = absurd (true-not-false r (ap is_ready e))
   effect-dead answer (lock number) s d r e = absurd (true-not-false r (ap is_ready e))
   effect-dead answer to_inert s d r e = absurd (not_dead e refl)
   effect-dead answer to_dead s d r e = d ∙ ap dead-code e
-  effect-dead answer to_failed s d r e = d ∙ ap dead-code e
 
   module _ (reason : Reason) where
     -- what a step says of its reason
@@ -93,7 +84,7 @@ module _ (prims : Primitives) (map : Map) (m : Machine) where
     act-told : (x : Command) → ReasonNamed (act prims map x m)
     act-told x =
         by_cases (is_ready m.session.phase)
-        (λ t h. unfold act performed in (effect-dead _ _ m.session (perform-gives (act-dead-by-code x)) t))
+        (λ t h. unfold act performed in (effect-dead _ _ m.session (perform-gives (act-dead-with-four x) m.lent) t))
         (λ t h. absurd (h (act-not-ready prims map x m t)))
 
     pub deaths-named : (x : Command) → ReasonNamed (step prims map x m)

@@ -11,11 +11,11 @@ use Rattle.life_cycle.specs.Words.{counter_word, counter_words, has_b, state_wor
 use Rattle.life_cycle.specs.Transitions.{is_test, is_unlocked, is_locked, test_index, table_entry}
 use Rattle.model.specs.Session.{is_ready, sensed_at, sensed_locked, read_locked}
 use Rattle.model.specs.Lent.{right_sizes}
-use Rattle.model.specs.Acts.{effect_on, copy_after, after_program, after_inspection, with_comparison, perform}
+use Rattle.model.specs.Acts.{effect_on, after_program, with_comparison, perform}
 use Rattle.model.specs.Commands.{direct_rule, granule, stored_digest, data_words, token_kind, token_offset, scrambled, unscrambled, computed_digest, counter_at}
 use Rattle.model.specs.Commands.{state_at, stored_token, hashes_to, write_act, read_act, front_read_act, digest_act, read_lock_act, move_act, transition_act}
 use Rattle.model.specs.Commands.{command_act, ready_act, write_denied, read_denied, front_read_denied, digest_denied, read_value, locked_token, token_authorization}
-use Rattle.model.specs.Commands.{authorization, authorized_act, rescrambled_word, recomputed_digest, digests_agree, life_cycle_agrees, first_fault, check_act}
+use Rattle.model.specs.Commands.{authorization, authorized_act}
 use Rattle.model.specs.PowerUp.{sensed_digest, digests, life_cycle_end, end_of, digest_holds, first_failing, life_cycle_in, copy_word, powered_copy, powered_session}
 use Rattle.model.specs.PowerUp.{powered_answer, power_up_end}
 use Rattle.model.specs.Step.{unchanged, performed, act, power_up, obey, step, after, answers, judgement}
@@ -26,11 +26,9 @@ unfoldable pub everything : Unit {0}
 unfolding if◌then◌else◌ all_below any_below listed first_not number_of words_of part_at loses_bit refuses program_answer stored program_cells rights_of holds number_at
     nowhere partition partition_at limit in_digest granule_at first_word word_count kind_number number_of_kind map1 pair_valid valid_constants counter_word counter_words
     has_b state_word state_words same_words encoded_by life_cycle_of decoded is_test is_unlocked is_locked test_index table_entry is_ready sensed_at sensed_locked read_locked
-    right_sizes key_of digest_start digest_final raw_unlock_hash effect_on copy_after after_program after_inspection with_comparison perform direct_rule granule
-    stored_digest data_words token_kind
+    right_sizes key_of digest_start digest_final raw_unlock_hash effect_on after_program with_comparison perform direct_rule granule stored_digest data_words token_kind
     token_offset write_denied read_denied front_read_denied digest_denied scrambled unscrambled read_value computed_digest counter_at state_at stored_token hashes_to
-    write_act read_act front_read_act digest_act read_lock_act move_act locked_token token_authorization authorization authorized_act transition_act
-    rescrambled_word recomputed_digest digests_agree life_cycle_agrees first_fault check_act command_act ready_act
+    write_act read_act front_read_act digest_act read_lock_act move_act locked_token token_authorization authorization authorized_act transition_act command_act ready_act
     sensed_digest digests life_cycle_end end_of digest_holds first_failing life_cycle_in copy_word powered_copy powered_session powered_answer power_up_end unchanged
     performed act power_up obey judgement step after answers after_judged answers_judged
 everything = tt

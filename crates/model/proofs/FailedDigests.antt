@@ -35,8 +35,7 @@ use Rattle.model.proofs.Refusals.{power-ups-refuse}
 use Rattle.model.proofs.Classes.{no-power-up, by-writing, by-class}
 use Rattle.model.proofs.Since.{first-since, up-held}
 use Rattle.model.proofs.KindNames.{kind-hardware}
-use Rattle.model.proofs.Sound.{none-fails}
-use Rattle.model.proofs.PowerUpCodes.{fails-failed, power-up-sixes}
+use Rattle.model.proofs.PowerUpCodes.{none-fails, fails-failed, power-up-sixes}
 use Rattle.model.proofs.DigestChecks.{zero-holds, step-holds, digest-checks}
 use Rattle.model.proofs.Guards.{not-locked}
 use Rattle.model.proofs.Effects.{effect-ready, effect-sensed}

@@ -1,5 +1,5 @@
 -- The act that each command is decided to be, by cases on the commands. The idea: past the refusals that change nothing a command shows a value, locks a
--- partition, programs a granule or a digest, spends a stroke, or inspects what is lent; whatever else holds of acts is shown for these forms.
+-- partition, programs a granule or a digest, or spends a stroke; whatever else holds of acts is shown for these forms.
 use mathlib.Core.Path.{◌≡◌, refl}
 use mathlib.Core.Bool.{Bool, true, false, ◌||◌}
 use mathlib.Core.List.{List}
@@ -16,12 +16,12 @@ use Rattle.life_cycle.specs.Transitions.{table_entry}
 use Rattle.model.specs.declared.Answer.{Answer}
 use Rattle.model.specs.declared.Answer.TheVariants.{Done, Denied, NotReady, UnknownTarget, StrokesUsed}
 use Rattle.model.specs.declared.Command.{Command}
-use Rattle.model.specs.declared.Command.TheVariants.{Read, Write, FrontRead, Digest, ReadLock, Transition, PowerUp, Check}
+use Rattle.model.specs.declared.Command.TheVariants.{Read, Write, FrontRead, Digest, ReadLock, Transition, PowerUp}
 use Rattle.model.specs.Session.{is_ready, sensed_locked}
 use Rattle.model.specs.Lent.{Machine, Primitives}
-use Rattle.model.specs.Acts.{no_effect, lock, to_inert, to_dead, Act, say, program, inspect, refuse}
+use Rattle.model.specs.Acts.{no_effect, lock, to_inert, to_dead, Act, say, program, refuse}
 use Rattle.model.specs.Commands.{direct_rule, digest_rule, life_cycle_rule, computed_digest, counter_at, authorization, authorized_act, write_act, read_act}
-use Rattle.model.specs.Commands.{front_read_act, digest_act, read_lock_act, transition_act, first_fault, check_act, command_act, ready_act}
+use Rattle.model.specs.Commands.{front_read_act, digest_act, read_lock_act, transition_act, command_act, ready_act}
 use Rattle.model.specs.Claims.Terms.{quiet, stored_words}
 use Rattle.model.specs.Answers.{code_of}
 use Rattle.model.proofs.Guards.{WriteGuards, write-guards, DigestGuards, digest-guards, allowed-below, allowed-there}
@@ -41,11 +41,6 @@ pub refuses-not-done : {x : Command} {answer : Answer} → Refuses x answer → 
 refuses-not-done (denied q) z = omega arith
 refuses-not-done not_ready z = omega arith
 refuses-not-done unknown_target z = omega arith
-
-pub refuses-not-six : {x : Command} {answer : Answer} → Refuses x answer → code_of answer ≡ 0x06 → ⊥
-refuses-not-six (denied q) z = omega arith
-refuses-not-six not_ready z = omega arith
-refuses-not-six unknown_target z = omega arith
 
 module _ (prims : Primitives) (map : Map) (m : Machine) where
   abbrev pub k : List ℕ
@@ -87,7 +82,6 @@ module _ (prims : Primitives) (map : Map) (m : Machine) where
     spends : {target high low : ℕ} → Transits target → m.session.count < 24
         → Form (Transition target high low) (program life_cycle_rule (counter_at map) (counter_words k (suc m.session.count)) to_dead
         (authorized_act prims map m (authorization prims map m.session (table_entry m.session.state target) (high * 2 ^ 64 + low)) target))
-    checks : is_ready m.session.phase ≡ true → Form Check (inspect (first_fault prims map m.session) (say (Done 0) no_effect))
 
   choose : {x : Command} (b : Bool) {y z : Act} → (b ≡ true → Form x y) → (b ≡ false → Form x z) → Form x (if b then y else z)
   choose {x} b {y} {z} f g = if-both (Form x) b y z f g
@@ -111,7 +105,7 @@ module _ (prims : Primitives) (map : Map) (m : Machine) where
       choose _ (λ t. used h (ltb-false _ _ (not-true _ t))) (λ t. spends h (ltb-true _ _ (not-false _ t))))
 
   command-form : (x : Command) → is_ready m.session.phase ≡ true → Form x (command_act prims map m x)
-  unfolding command_act write_act read_act front_read_act digest_act read_lock_act check_act
+  unfolding command_act write_act read_act front_read_act digest_act read_lock_act
   command-form (Read a) r = on-address a _ tt (λ l o. reads)
   command-form (Write a value) r = on-address a _ tt (λ l o. writes (record { ready = r; below = l; guards = write-guards (partition_at map a) a o }))
   command-form (FrontRead a) r = on-address a _ tt (λ l o. front_reads)
@@ -119,7 +113,6 @@ module _ (prims : Primitives) (map : Map) (m : Machine) where
   command-form (ReadLock number) r = choose _ (λ t. refuses (denied tt)) (λ t. locks)
   command-form (Transition target high low) r = transition-form r target high low
   command-form PowerUp r = refuses not_ready
-  command-form Check r = checks r
 
   pub act-form : (x : Command) → Form x (ready_act prims map m x)
   unfolding ready_act

@@ -30,9 +30,9 @@ use Rattle.model.specs.Claims.Terms.{ValidInputs, Digested, SamePartition, NoPow
 use Rattle.model.specs.Claims.Sensing.{Since}
 use Rattle.model.proofs.Acts.{not_done}
 use Rattle.model.proofs.Steps.{outcome, step-obeys, after-inputs}
-use Rattle.model.proofs.Locks.{same_refl}
-use Rattle.model.proofs.CopyWords.{front-copy}
-use Rattle.model.proofs.Since.{since-held, locked-since}
+use Rattle.model.proofs.Locks.{same_refl, locked-since}
+use Rattle.model.proofs.Chips.{front-latched}
+use Rattle.model.proofs.Since.{since-held}
 use Rattle.model.proofs.Guards.{allowed-below, front-open, allowed-there}
 use Rattle.model.proofs.Classes.{by-class}
 
@@ -77,7 +77,7 @@ module _ (prims : Primitives) (map : Map) (F : fit map ≡ true) where
           let low : j < limit map / 2 = omega (arith, (word-inside map F seen.below from upto).below, top, i.fits.end-aligned) in
           ap (λ (k : List ℕ). get_or k j 0) s.copy
           ∙ listed_at (copy_word prims map m.lent.constants c₀) 0 (limit map / 2) j low
-          ∙ front-copy prims map m.lent.constants c₀ j (rw p (unfold partition_at in seen.front))
+          ∙ front-latched prims map m.lent.constants c₀ j (rw p (unfold partition_at in seen.front))
 
   read-seen : (m : Machine) → ValidInputs map m → (a value : ℕ) → answer_to prims map (FrontRead a) m ≡ Done value → Seen prims map m a value
   unfolding obey act performed
@@ -134,7 +134,7 @@ module _ (prims : Primitives) (map : Map) (F : fit map ≡ true) (m : Machine) (
   -- every later power-up finds them too
   found-same : (before : List Command) → Starts before → SamePartition map n c₁ (after prims map (l₁ ++ before) m).lent.cells
   found-same [] s = rw append-nil same_refl
-  found-same (x ∷ l) s = rw s (locked-since prims map F n D m r l₁ l z)
+  found-same (x ∷ l) s = rw s (locked-since prims map F n D m r l₁ l z).1
 
   granule-same : (c : List ℕ) → SamePartition map n c₁ c → (a : ℕ) → a < limit map → number_at map a ≡ n
       → granule (partition_at map a) c a ≡ granule (partition map n) c₁ a

@@ -1,22 +1,19 @@
 -- What holds of every act of a command. The idea: its form says what it may program and what it may answer, so that a law about either names no command
 -- but those that do.
 use mathlib.Core.Path.{◌≡◌, refl}
-use mathlib.Core.Bool.{true}
 use mathlib.Core.List.{List}
-use mathlib.Core.Option.{some}
 use Prim.Native.Nat.{ℕ, suc, ◌/◌}
 use Rattle.words.specs.Words.{words_of}
 use Rattle.partitions.specs.Map.{Map, partition_at, first_word}
 use Rattle.life_cycle.specs.Words.{counter_words, state_words}
 use Rattle.life_cycle.specs.Transitions.{table_entry}
 use Rattle.model.specs.declared.Answer.{Answer}
-use Rattle.model.specs.declared.Answer.TheVariants.{Done, NotBlank, DigestFailed, StrokesUsed}
+use Rattle.model.specs.declared.Answer.TheVariants.{Done, NotBlank, StrokesUsed}
 use Rattle.model.specs.declared.Command.{Command}
-use Rattle.model.specs.declared.Command.TheVariants.{Write, Digest, ReadLock, Transition, Check}
-use Rattle.model.specs.Session.{is_ready}
+use Rattle.model.specs.declared.Command.TheVariants.{Write, Digest, ReadLock, Transition}
 use Rattle.model.specs.Lent.{Machine, Primitives}
-use Rattle.model.specs.Acts.{Effect, no_effect, lock, to_inert, to_failed, Act}
-use Rattle.model.specs.Commands.{counter_at, state_at, move_act, first_fault, ready_act, transiting, class_of}
+use Rattle.model.specs.Acts.{Effect, no_effect, lock, to_inert, Act}
+use Rattle.model.specs.Commands.{counter_at, state_at, move_act, ready_act, transiting, class_of}
 use Rattle.model.specs.Claims.Terms.{quiet, stored_words}
 use Rattle.model.proofs.Acts.{Within, Gives}
 use Rattle.model.proofs.Transitions.{EndCases, entry-all, Ends, entry_gives}
@@ -52,7 +49,6 @@ module _ (prims : Primitives) (map : Map) (m : Machine) where
     form-within h (writes {a} {value} w) = Within.programs (h.write a value refl w) Within.says
     form-within h (digests {a} w) = Within.programs (h.digest a refl w) Within.says
     form-within h (used t n) = Within.says
-    form-within h (Form.checks r) = Within.inspects Within.says
     form-within h (spends {target} {high} {low} t n) =
         Within.programs (h.counter target high low refl t)
         (entry-all prims map m target (Within P) (moves target (h.state target high low refl t)) (table_entry m.session.state target) _)
@@ -69,10 +65,8 @@ module _ (prims : Primitives) (map : Map) (m : Machine) where
     pub locked : (n : ℕ) → x ≡ ReadLock n → T (Done 0) (lock n)
     pub used : class_of x ≡ transiting → T StrokesUsed to_inert
     pub spent : class_of x ≡ transiting → Ends T
-    pub failed : x ≡ Check → is_ready m.session.phase ≡ true → (number : ℕ) → first_fault prims map m.session m.lent ≡ some number
-        → T (DigestFailed number) to_failed
 
-  form-gives : {T : Answer → Effect → Type 0} {x : Command} {act : Act} → Answering T x → Form prims map m x act → Gives T act m.lent
+  form-gives : {T : Answer → Effect → Type 0} {x : Command} {act : Act} → Answering T x → Form prims map m x act → Gives T act
   form-gives h (refuses r) = Gives.says (h.refused r)
   form-gives h reads = Gives.says (h.done tt _)
   form-gives h front_reads = Gives.says (h.done tt _)
@@ -81,8 +75,7 @@ module _ (prims : Primitives) (map : Map) (m : Machine) where
   form-gives h (digests w) = Gives.programs (h.not_blank tt) (Gives.says (h.done tt _))
   form-gives h (used t n) = Gives.says (h.used refl)
   form-gives h (spends {target} t n) =
-      Gives.programs (h.spent refl).not-blank (entry_gives (h.spent refl) prims map m (table_entry m.session.state target) target _ _)
-  form-gives h (Form.checks r) = Gives.inspects (h.failed refl r) (Gives.says (h.done tt _))
+      Gives.programs (h.spent refl).not-blank (entry_gives (h.spent refl) prims map m (table_entry m.session.state target) target _)
 
-  pub act-gives : {T : Answer → Effect → Type 0} {x : Command} → Answering T x → Gives T (ready_act prims map m x) m.lent
+  pub act-gives : {T : Answer → Effect → Type 0} {x : Command} → Answering T x → Gives T (ready_act prims map m x)
   act-gives {x = x} h = form-gives h (act-form prims map m x)

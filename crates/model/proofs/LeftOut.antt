@@ -1,5 +1,5 @@
--- Commands that can be left out of a list. The idea: the acts of a read and of a front read end in an answer alone, so does that of a check that does not fail,
--- and a refused command changes nothing; so the machine before such a command is the machine after it.
+-- Commands that can be left out of a list. The idea: the acts of a read and of a front read end in an answer alone, and a refused command changes nothing; so
+-- the machine before such a command is the machine after it.
 use mathlib.Core.Path.{◌≡◌, refl, sym, ap, ◌∙◌}
 use mathlib.Core.List.{List, [], ◌∷◌, ◌++◌}
 use Prim.Native.Nat.{ℕ}
@@ -10,11 +10,10 @@ use Rattle.model.specs.declared.Command.TheVariants.{Read, FrontRead}
 use Rattle.model.specs.Lent.{Machine, Primitives}
 use Rattle.model.specs.Acts.{no_effect, Act, say, perform}
 use Rattle.model.specs.Step.{Step, unchanged, performed, act, after, answers, machine_after, answer_to}
-use Rattle.model.specs.Claims.Refusals.{Idle, reads, front_reads, checks, refused, unlent}
+use Rattle.model.specs.Claims.Refusals.{Idle, reads, front_reads, refused, unlent}
 use Rattle.model.specs.Claims.Terms.{quiet}
 use Rattle.model.proofs.Steps.{step_both, after-append, same-machine, obeys-act, after_act}
 use Rattle.model.proofs.Refusals.{commands-refuse, power-ups-refuse}
-use Rattle.model.proofs.Checks.{check-same}
 use Rattle.model.proofs.Forms.{Form, act-form}
 use Rattle.model.proofs.Classes.{no-power-up, quiet-not-power-up}
 
@@ -52,8 +51,7 @@ module _ (prims : Primitives) (map : Map) (m : Machine) where
   pub idle-same : (x : Command) → Idle prims map m x → machine_after prims map x m ≡ m
   idle-same x (reads {a}) = answers-only (Read a) tt (read-acts a)
   idle-same x (front_reads {a}) = answers-only (FrontRead a) tt (front-acts a)
-  idle-same x (checks h) = check-same prims map m h
-  idle-same x (refused q h k) = commands-refuse prims map m x q h k
+  idle-same x (refused q h) = commands-refuse prims map m x q h
   idle-same x (unlent j) = (power-ups-refuse prims map m).1 j
 
 module _ (prims : Primitives) (map : Map) where

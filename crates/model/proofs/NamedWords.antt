@@ -33,7 +33,7 @@ use Rattle.model.specs.Step.{Step, unchanged, performed, act, power_up, obey, af
 use Rattle.model.specs.Claims.Terms.{ValidInputs, Says, writes_at, digests_at, quiet, writes_nothing, writing_of, stored_words}
 use Rattle.model.specs.Claims.Refusals.{judgement_code}
 use Rattle.model.specs.Claims.Burns.{Targets, writing, digesting, moving, Named}
-use Rattle.model.proofs.Programs.{Programs, refuses, ends, burns, compares, inspects, last-piece, AnswerMeans, tells-nothing, perform-programs}
+use Rattle.model.proofs.Programs.{Programs, refuses, ends, burns, compares, last-piece, AnswerMeans, tells-nothing, perform-programs}
 use Rattle.model.proofs.Steps.{step_both, step-obeys, after-inputs, obeys-act}
 use Rattle.model.proofs.Transitions.{EndCases, entry-all}
 use Rattle.model.proofs.PowerUpEnd.{powered-answer}
@@ -143,7 +143,6 @@ module _ (prims : Primitives) (map : Map) (m : Machine) where
   idle-form q e (Form.writes {a} {value} w) = absurd (writes-something a value e)
   idle-form q e (Form.digests {a} w) = absurd (digests-something a e)
   idle-form q e (Form.used t n) = absurd q
-  idle-form q e (Form.checks r) = inspects ends
   idle-form q e (Form.spends t n) = absurd q
 
   idle : (x : Command) → class_of x ≡ access → writing_of x ≡ writes_nothing → code_of (answer_to prims map x m) ≡ 0x04 → ⊥

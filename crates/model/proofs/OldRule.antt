@@ -25,7 +25,7 @@ use Rattle.model.specs.declared.Answer.TheVariants.{Done, NotBlank}
 use Rattle.model.specs.declared.Command.{Command}
 use Rattle.model.specs.declared.Command.TheVariants.{Write, Digest, PowerUp}
 use Rattle.model.specs.Lent.{Machine, Primitives, right_lengths}
-use Rattle.model.specs.Acts.{effect_on, copy_after, after_program, perform}
+use Rattle.model.specs.Acts.{effect_on, after_program, perform}
 use Rattle.model.specs.Commands.{direct_rule, digest_rule, stored_digest, scrambled, write_denied}
 use Rattle.model.specs.Step.{Step, unchanged, performed, act, obey, step, after, machine_after, answer_to}
 use Rattle.model.specs.Claims.Terms.{ValidInputs, Cipher, not_written, stored_words, Allowed, TakesEffect}
@@ -190,7 +190,7 @@ module _ (prims : Primitives) (C : Cipher prims) (map : Map) (F : fit map ≡ tr
   clears-refused : {a : ℕ} → InAuthState map a → (c₀ : List ℕ) (m : Machine) → Since prims map c₀ m → stored_digest (partition_at map a) c₀ ≡ 0
       → (value j : ℕ) → Lowest KeepBits m.lent.cells (a / 4 * 2) (words_of 2 value) j
       → (answer_to prims map (Write a value) m ≡ NotBlank j) × (machine_after prims map (Write a value) m ≡ m)
-  unfolding act performed perform after_program effect_on copy_after
+  unfolding act performed perform after_program effect_on
   clears-refused {a} i c₀ m f z value j low =
       let e = write-decided prims C map F c₀ m f a value i.below (not-denied i _ z) in
       let q = lowest-refused KeepBits (words_of 2 value) m.lent.cells (a / 4 * 2) j low in
@@ -207,7 +207,7 @@ module _ (prims : Primitives) (C : Cipher prims) (map : Map) (F : fit map ≡ tr
     m₁ = after prims map l₁ (machine_after prims map PowerUp (after prims map l₀ m))
 
     since : Since prims map c₀ m₁
-    since = after-since prims map F C c₀ l₁ _ ready.lasts (first-since prims map F _ (after-inputs prims map l₀ m r) ready.succeeded)
+    since = after-since prims map F c₀ l₁ _ ready.lasts (first-since prims map F _ (after-inputs prims map l₀ m r) ready.succeeded)
 
     adding-taken : (value : ℕ) → stored_digest (partition_at map a) c₀ ≡ 0
         → ((j : ℕ) → j < 2 → loses_bit (get_or (two_words m₁.lent.cells a) j 0) (get_or (words_of 2 value) j 0) ≡ false)

@@ -47,7 +47,7 @@ abbrev Acted : Answer → Effect → Type 0
 Acted (Done value) t = Unit {0}
 Acted (NotBlank cell) t = Unit {0}
 Acted Denied t = Unit {0}
-Acted (DigestFailed partition) t = Unit {0}
+Acted (DigestFailed partition) t = ⊥
 Acted NotReady t = Unit {0}
 Acted (LifeCycleFailed value) t = ⊥
 Acted WrongLength t = ⊥
@@ -66,7 +66,6 @@ acted-plain : (answer : Answer) (t : Effect) → Acted answer t → Plain answer
 acted-plain (Done value) t h = ((refl, refl), λ e. absurd (true-not-false refl e))
 acted-plain (NotBlank cell) t h = ((refl, refl), λ e. absurd (true-not-false refl e))
 acted-plain Denied t h = ((refl, refl), λ e. refl)
-acted-plain (DigestFailed partition) t h = ((refl, refl), λ e. absurd (true-not-false refl e))
 acted-plain NotReady t h = ((refl, refl), λ e. refl)
 acted-plain UnknownTarget t h = ((refl, refl), λ e. refl)
 acted-plain StrokesUsed t h = ((refl, refl), λ e. refl)
@@ -78,17 +77,10 @@ acted-ends : Ends Acted
 acted-ends = record { not-blank = λ cell. tt; moved = tt; forbidden = tt; token_unlocked = tt; differs = tt }
 
 module _ (prims : Primitives) (map : Map) (m : Machine) where
-  ready-acted : (x : Command) → Gives Acted (ready_act prims map m x) m.lent
+  ready-acted : (x : Command) → Gives Acted (ready_act prims map m x)
   ready-acted x =
-      act-gives prims map m (record {
-        refused = refused-acted;
-        done = λ q value. tt;
-        not_blank = λ q cell. tt;
-        locked = λ n e. tt;
-        used = λ e. tt;
-        spent = λ e. acted-ends;
-        failed = λ e r number f. tt;
-      })
+      act-gives prims map m
+      (record { refused = refused-acted; done = λ q value. tt; not_blank = λ q cell. tt; locked = λ n e. tt; used = λ e. tt; spent = λ e. acted-ends })
     where
       refused-acted : {y : Command} {answer : Answer} → Refuses y answer → Acted answer no_effect
       refused-acted (Refuses.denied q) = tt
@@ -100,7 +92,7 @@ module _ (prims : Primitives) (map : Map) (m : Machine) where
   unfolding act performed
   act-acted x =
       let r : Performed = perform (ready_act prims map m x) m.lent in
-      acted-plain r.answer r.effect (perform-gives (ready-acted x))
+      acted-plain r.answer r.effect (perform-gives (ready-acted x) m.lent)
 
   up-plain : Plain (power_up prims map m).result.answer
   unfolding power_up power_up_end

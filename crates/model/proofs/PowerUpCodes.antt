@@ -3,25 +3,28 @@
 use Rattle.model.specs.declared.Session.{Session}
 use Rattle.model.specs.declared.Command.{Command}
 use mathlib.Core.Path.{◌≡◌, refl, sym, ap, subst, ◌∙◌}
-use mathlib.Core.Bool.{Bool, true, false, not, ◌||◌}
+use mathlib.Core.Bool.{Bool, true, false, not, ◌&&◌, ◌||◌}
 use mathlib.Core.List.{List, [], ◌∷◌}
 use mathlib.Core.Logic.{◌↔◌}
 use mathlib.Core.Option.{Option, none, some}
-use Prim.Native.Nat.{ℕ, zero, ◌+◌, ◌*◌, ◌-◌, ◌/◌, ◌<◌}
+use Prim.Native.Nat.{ℕ, zero, ◌+◌, ◌*◌, ◌-◌, ◌/◌, ◌%◌, ◌<◌}
 use native.Mathlib.Omega.{arith}
 use lib.Dec.{eqb, leb, ltb}
 use lib.ListN.{length, get_or, get_or-eq_default}
-use borrow.Author.Tests.{eqb-true, eqb-false, ne_eqb, leb-true, leb-false, not-false, ltb-true, ltb-false}
+use borrow.Author.Tests.{eqb-true, eqb-false, ne_eqb, leb-true, leb-false, lt-leb, not-false, not-true, ltb-true, ltb-false}
 use Rattle.basics.specs.Choice.{if◌then◌else◌}
-use Rattle.basics.proofs.Choice.{by_cases, true-not-false, or-none-left, or-none-right, if-both, if-false, not-passed}
+use Rattle.basics.proofs.Choice.{by_cases, true-not-false, and_left, and_right, and_both, or-none-left, or-none-right, if-both, if-true, if-false, not-passed}
 use Rattle.basics.proofs.Range.{listed_at, length-listed}
-use Rattle.basics.proofs.First.{some_first, first_some, all_none}
+use Rattle.basics.proofs.First.{none-all, some_first, first_some, all_none}
 use Rattle.basics.specs.Range.{listed}
+use Rattle.words.specs.Words.{number_of, words_of, part_at}
 use Rattle.partitions.specs.declared.Kind.{Kind}
 use Rattle.partitions.specs.declared.Partition.{Partition}
 use Rattle.partitions.specs.Fitness.{fit}
-use Rattle.partitions.specs.Map.{Map, rights_of, partition, partition_at, limit, in_digest}
-use Rattle.partitions.proofs.Map.{direct-known}
+use Rattle.partitions.specs.Map.{Map, rights_of, partition, partition_at, limit, in_digest, first_word, word_count}
+use Rattle.partitions.proofs.KindRights.{scrambled-not-lockable}
+use Rattle.partitions.proofs.Map.{inside, direct-known}
+use Rattle.partitions.proofs.Granules.{granule-scrambled, size-words}
 use Rattle.life_cycle.specs.declared.LifeCycle.{LifeCycle}
 use Rattle.life_cycle.specs.declared.LifeCycle.TheVariants.{Valid, Invalid}
 use Rattle.life_cycle.proofs.Decoding.{decoded-says, decoded-valid}
@@ -30,23 +33,26 @@ use Rattle.model.specs.Answers.{code_of}
 use Rattle.model.specs.Session.{sensed_at}
 use Rattle.constants.specs.Constants.{digest_start, digest_final}
 use Rattle.model.specs.Lent.{Lent, Machine, Primitives}
-use Rattle.model.specs.Commands.{stored_digest, data_words, computed_digest, counter_at, state_at}
+use Rattle.model.specs.Commands.{granule, stored_digest, data_words, computed_digest, unscrambled, counter_at, state_at}
 use Rattle.model.specs.PowerUp.{digest_holds, first_failing, verdict_of, life_cycle_in, copy_word, end_of, life_cycle_end, power_up_end, powered_answer}
 use Rattle.model.specs.PowerUp.{powered_session, PowerUpEnd, succeeds, digests, sensed_digest}
 use Rattle.model.specs.Step.{power_up, machine_after, answer_to, step, unchanged, act, performed, Step}
 use Rattle.model.specs.Claims.Terms.{ValidInputs, Digested, Says, not_power_up}
-use Rattle.model.specs.Claims.Numbers.{digest_in, digest_of}
+use Rattle.model.specs.Claims.Numbers.{KeyAt, eight_from, digest_in, digest_of}
 use Rattle.model.specs.Claims.PowerUps.{Fails, FirstFails, Encodes, Latched}
-use Rattle.model.proofs.KindNames.{hardware-kind, kind-hardware, lockable-kind, scrambled-keyed}
+use Rattle.model.proofs.KindNames.{Keyed, keyed-scrambled, hardware-kind, kind-hardware, lockable-kind, scrambled-keyed, key-is}
 use Rattle.model.proofs.Steps.{step-up, step-constants, step_both, obeys-act}
-use Rattle.model.proofs.Sound.{none-fails, since-sensed}
-use Rattle.model.proofs.CopyWords.{unbuffered-copy, digest-copy, secret-copy, plain_copy}
-use Rattle.model.proofs.Since.{first-since}
+use Rattle.model.proofs.Since.{first-since, since-sensed}
 use Rattle.model.proofs.Classes.{no-power-up}
 use Rattle.model.specs.declared.Phase.TheVariants as phase
 use Rattle.partitions.specs.declared.Kind.TheVariants as kind
 
 -- ---- the first partition that fails
+
+pub none-fails : (prims : Primitives) (map : Map) (k c : List ℕ) → first_failing prims map k c ≡ none → (n : ℕ) → n < length map
+    → digest_holds prims k c (partition map n) ≡ true
+unfolding first_failing
+none-fails prims map k c e n l = none-all (λ i. digest_holds prims k c (partition map i)) 0 (length map) e n (omega arith) (omega arith)
 
 module _ (prims : Primitives) (map : Map) (l : Lent) where
   abbrev holds : ℕ → Bool
@@ -240,21 +246,47 @@ module _ (prims : Primitives) (map : Map) (F : fit map ≡ true) where
     abbrev p : Partition
     p = partition_at map a
 
-    abbrev InCopy : ℕ → Type 0
-    InCopy = Latched prims map l j
+    within : a < limit map
+    within = omega arith
 
-    latched : InCopy (copy_word prims map l.constants l.cells j)
-    unfolding in_digest
+    -- the block of a word of secret data
+    block : (rights_of p.kind).scrambled ≡ true → (key : Keyed p.kind)
+        → get_or (words_of (word_count p a) (unscrambled prims l.constants p (granule p l.cells a))) (j - first_word p a) 0
+        ≡ get_or (words_of 4 (prims.decrypt (eight_from l.constants key.first) (number_of (part_at l.cells (j / 4 * 4) 4)))) (j % 4) 0
+    unfolding unscrambled granule
+    block s key =
+        let w = size-words p a 8 (granule-scrambled (inside map F within).fits s a) in
+        let first : first_word p a ≡ j / 4 * 4 = w.0 ∙ (let q : 2 * j / 8 * (8 / 2) ≡ j / 4 * 4 = omega arith in q) in
+        let place : j - j / 4 * 4 ≡ j % 4 = omega arith in
+        rw (first, w.1, place, key-is l.constants key.at, s) (if-true-block key)
+      where
+        if-true-block : (key : Keyed (partition_at map (2 * j)).kind)
+            → get_or (words_of 4 (if true then prims.decrypt (eight_from l.constants key.first) (number_of (part_at l.cells (j / 4 * 4) 4)) else number_of
+            (part_at l.cells (j / 4 * 4) 4))) (j % 4) 0
+            ≡ get_or (words_of 4 (prims.decrypt (eight_from l.constants key.first) (number_of (part_at l.cells (j / 4 * 4) 4)))) (j % 4) 0
+        if-true-block key = unfold if◌then◌else◌ in refl
+
+    -- a word of secret data in the copy
+    pub secret-copy : {first : ℕ} → KeyAt p.kind first → a < p.digest → copy_word prims map l.constants l.cells j
+        ≡ get_or (words_of 4 (prims.decrypt (eight_from l.constants first) (number_of (part_at l.cells (j / 4 * 4) 4)))) (j % 4) 0
+    unfolding copy_word in_digest
+    secret-copy {first} at d =
+        let s = keyed-scrambled at in
+        if-false _ _ (scrambled-not-lockable p.kind s) ∙ if-true _ _ (and_both _ _ s (ap not (lt-leb _ _ d))) ∙ block s (record { first = first; at = at })
+
+    latched : Latched prims map l j (copy_word prims map l.constants l.cells j)
+    unfolding copy_word in_digest
     latched =
-        by_cases (rights_of p.kind).lockable
-        (λ t. subst InCopy (sym (unbuffered-copy prims map l.constants l.cells j t)) (Latched.unbuffered (lockable-kind _ t)))
-        λ t. by_cases (rights_of p.kind).scrambled
-        (λ s. (let key = scrambled-keyed p.kind s in
-        by_cases (leb p.digest a)
-        (λ d. subst InCopy (sym (digest-copy prims map l.constants l.cells j t d)) (Latched.secret_digest (leb-true _ _ d) key.at))
-        (λ d. (let below = leb-false _ _ d in
-        subst InCopy (sym (secret-copy prims map l.constants l.cells j F (omega arith) key.at below)) (Latched.secret below key.at)))))
-        λ s. subst InCopy (sym (plain_copy prims map l.constants l.cells j t s)) (rest-kind p.kind t s Latched.hw_cfg Latched.life_cycle)
+        if-both (Latched prims map l j) (rights_of p.kind).lockable _ _ (λ t. Latched.unbuffered (lockable-kind _ t))
+        λ t. if-both (Latched prims map l j) ((rights_of p.kind).scrambled && not (leb p.digest a)) _ _
+        (λ s. (let q = and_left (rights_of p.kind).scrambled _ s in
+        let key = scrambled-keyed p.kind q in
+        subst (Latched prims map l j) (sym (block q key))
+        (Latched.secret (leb-false _ _ (not-true _ (and_right (rights_of p.kind).scrambled _ s))) key.at)))
+        λ s. by_cases (rights_of p.kind).scrambled
+        (λ q. Latched.secret_digest (leb-true _ _ (by_cases (leb p.digest a) (λ d. d) (λ d. absurd (true-not-false (and_both _ _ q (ap not d)) s))))
+        (scrambled-keyed p.kind q).at)
+        (λ q. rest-kind p.kind t q Latched.hw_cfg Latched.life_cycle)
 
   pub power-up-copy : (m : Machine) → ValidInputs map m → code_of (answer_to prims map PowerUp m) ≡ 0x00 → (j : ℕ) → j < limit map / 2
       → Latched prims map m.lent j (get_or (machine_after prims map PowerUp m).lent.copy j 0)

@@ -2,7 +2,6 @@
 use mathlib.Core.Path.{◌≡◌, refl, sym, ◌∙◌}
 use mathlib.Core.Bool.{Bool, true}
 use mathlib.Core.List.{List, [], ◌++◌, append-nil}
-use mathlib.Core.Option.{Option}
 use Prim.Native.Nat.{ℕ, ◌+◌}
 use native.Mathlib.Omega.{arith}
 use lib.Dec.{ltb}
@@ -13,14 +12,14 @@ use Rattle.words.specs.declared.Rule.{Rule}
 use Rattle.words.specs.Programming.{program_answer, program_cells}
 use Rattle.words.proofs.Programming.{answer-same, append-stop, append-next, program-elsewhere}
 use Rattle.model.specs.declared.Answer.{Answer}
-use Rattle.model.specs.declared.Answer.TheVariants.{Done, DigestFailed}
+use Rattle.model.specs.declared.Answer.TheVariants.{Done}
 use Rattle.model.specs.Answers.{code_of, value_of}
 use Rattle.model.specs.Lent.{Lent, with_cells}
-use Rattle.model.specs.Acts.{Effect, Act, say, program, compare, inspect, Performed, with_comparison, perform}
-use Rattle.model.proofs.Acts.{after_both, inspected-both}
+use Rattle.model.specs.Acts.{Effect, Act, say, program, compare, Performed, with_comparison, perform}
+use Rattle.model.proofs.Acts.{after_both}
 use Rattle.words.specs.declared.Programmed.TheVariants as programmed
 
--- by the rule, the act programs the words from a place on: it refuses with a code above 4, fails with 6, or piece by piece it comes to the end and answers 0
+-- by the rule, the act programs the words from a place on: it refuses with a code above 4, or piece by piece it comes to the end and answers 0
 pub data Programs (rule : Rule) : ℕ → List ℕ → Act → Type 0 where
   refuses : {at : ℕ} {words : List ℕ} {answer : Answer} {effect : Effect} → ltb 4 (code_of answer) ≡ true → Programs rule at words (say answer effect)
   ends : {at value : ℕ} {effect : Effect} → Programs rule at [] (say (Done value) effect)
@@ -29,7 +28,6 @@ pub data Programs (rule : Rule) : ℕ → List ℕ → Act → Type 0 where
       → Programs rule at words (program rule at piece effect next)
   compares : {at : ℕ} {words : List ℕ} {test : Lent → Bool} {same other : Act} → Programs rule at words same → Programs rule at words other
       → Programs rule at words (compare test same other)
-  inspects : {at : ℕ} {words : List ℕ} {find : Lent → Option ℕ} {next : Act} → Programs rule at words next → Programs rule at words (inspect find next)
 
 -- the last piece, after which 0 is answered
 pub last-piece : {rule : Rule} {at : ℕ} {words : List ℕ} {effect end : Effect} {value : ℕ}
@@ -66,6 +64,3 @@ perform-programs {rule} {at} {words} (burns {next-at = next-at} {piece = piece} 
     (λ cell e. ((λ z. absurd (omega arith)), λ f. append-stop rule piece rest l.cells at cell e)))
 perform-programs {rule} {at} {words} (compares same other) l =
     if-both (λ (r : Performed). AnswerMeans rule l.cells at words r.answer) _ _ _ (λ e. perform-programs same l) (λ e. perform-programs other l)
-perform-programs {rule} {at} {words} (inspects {find = find} next) l =
-    inspected-both (λ (r : Performed). AnswerMeans rule l.cells at words r.answer) (find l) _ _ (λ e. perform-programs next l)
-    (λ number e. tells-nothing rule l.cells at words (DigestFailed number) refl)

@@ -18,13 +18,13 @@ use Rattle.partitions.proofs.Map.{digest-below-ten, partition-at, direct-known}
 use Rattle.model.specs.declared.Session.{Session}
 use Rattle.model.specs.declared.Answer.TheVariants.{Denied, NotReady, Done}
 use Rattle.model.specs.declared.Command.{Command}
-use Rattle.model.specs.declared.Command.TheVariants.{Read, Write, FrontRead, Digest, ReadLock, Transition, PowerUp, Check}
+use Rattle.model.specs.declared.Command.TheVariants.{Read, Write, FrontRead, Digest, ReadLock, Transition, PowerUp}
 use Rattle.model.specs.Answers.{code_of}
 use Rattle.model.specs.Session.{is_ready, read_locked, sensed_at, sensed_locked, with_locks}
-use Rattle.model.specs.Lent.{Lent, Machine, Primitives}
-use Rattle.model.specs.Acts.{Effect, no_effect, lock, to_inert, to_dead, to_failed, effect_on, copy_after, Act, Performed, perform}
+use Rattle.model.specs.Lent.{Lent, Machine, Primitives, with_cells}
+use Rattle.model.specs.Acts.{Effect, no_effect, lock, to_inert, to_dead, effect_on, Act, Performed, perform}
 use Rattle.model.specs.Commands.{write_act, read_act, front_read_act, digest_act, read_lock_act, move_act, transition_act, command_act, ready_act, authorized_act}
-use Rattle.model.specs.Commands.{read_denied, authorization, token_authorization, locked_token, check_act, first_fault, digests_agree}
+use Rattle.model.specs.Commands.{read_denied, authorization, token_authorization, locked_token}
 use Rattle.model.specs.PowerUp.{PowerUpEnd, fails, succeeds, power_up_end, powered_session}
 use Rattle.model.specs.Step.{Step, unchanged, performed, act, power_up, obey, step, after, machine_after, answer_to}
 use Rattle.model.specs.Claims.Terms.{ValidInputs, Says, not_power_up, NoPowerUp}
@@ -74,7 +74,6 @@ effect-locks no_effect ys s = refl
 effect-locks (lock number) ys s = refl
 effect-locks to_inert ys s = refl
 effect-locks to_dead ys s = refl
-effect-locks to_failed ys s = refl
 
 effect-one-apart : (n : ℕ) (t : Effect) (ys : List Bool) (s : Session) → OneApart n s.locks ys
     → OneApart n (effect_on t s).locks (effect_on t (with_locks ys s)).locks
@@ -83,7 +82,6 @@ effect-one-apart n no_effect ys s h = h
 effect-one-apart n (lock number) ys s h = one-apart-set n number s.locks ys h
 effect-one-apart n to_inert ys s h = h
 effect-one-apart n to_dead ys s h = h
-effect-one-apart n to_failed ys s h = h
 
 module _ (prims : Primitives) (map : Map) (n : ℕ) where
   -- what becomes of two machines that differ in the lock of n alone
@@ -96,7 +94,7 @@ module _ (prims : Primitives) (map : Map) (n : ℕ) where
   by-locks : {X : Type 0} (x : Command) (m : Machine) (ys : List Bool) → ((a : ℕ) → x ≡ Read a → X)
       → (ready_act prims map (with-locks ys m) x ≡ ready_act prims map m x → X) → X
   unfolding ready_act command_act write_act front_read_act digest_act read_lock_act transition_act authorized_act authorization token_authorization locked_token move_act
-      check_act first_fault digests_agree sensed_locked sensed_at
+      sensed_locked sensed_at
   by-locks (Read a) m ys f g = f a refl
   by-locks (Write a value) m ys f g = g refl
   by-locks (FrontRead a) m ys f g = g refl
@@ -104,7 +102,6 @@ module _ (prims : Primitives) (map : Map) (n : ℕ) where
   by-locks (ReadLock number) m ys f g = g refl
   by-locks (Transition target high low) m ys f g = g refl
   by-locks PowerUp m ys f g = g refl
-  by-locks Check m ys f g = g refl
 
   -- a read of something else answers alike
   read_alike : (m : Machine) (ys : List Bool) → OneApart n m.session.locks ys → (a : ℕ) → (ReadsData map n (Read a) → ⊥)
@@ -123,7 +120,7 @@ module _ (prims : Primitives) (map : Map) (n : ℕ) where
   unfolding performed
   performed-alike m ys h r = record {
     locks = (effect_on r.effect (with_locks ys m.session)).locks;
-    same = ap (λ (s : Session). record { lent = (performed r m).result.machine.lent; session = s }) (effect-locks r.effect ys m.session);
+    same = ap (λ (s : Session). record { lent = with_cells r.cells m.lent; session = s }) (effect-locks r.effect ys m.session);
     one_apart = effect-one-apart n r.effect ys m.session h;
   }
 
@@ -179,7 +176,7 @@ module _ (prims : Primitives) (map : Map) (n : ℕ) where
 
   -- what a read lock makes of a machine
   lock-alike : (m : Machine) → Alike m (machine_after prims map (ReadLock n) m)
-  unfolding unchanged obey act performed ready_act command_act read_lock_act perform effect_on copy_after
+  unfolding unchanged obey act performed ready_act command_act read_lock_act perform effect_on
   lock-alike m =
       let to : Act → Type 0 = λ a. Alike m (performed (perform a m.lent) m).result.machine in
       step_both prims map (λ (s : Step). Alike m s.result.machine) (ReadLock n) m (λ answer e. same m)
@@ -207,7 +204,6 @@ effect-locked n no_effect s e = e
 effect-locked n (lock number) s e = set-stays s.locks number n e
 effect-locked n to_inert s e = e
 effect-locked n to_dead s e = e
-effect-locked n to_failed s e = e
 
 effect-space : (t : Effect) (s : Session) → length (effect_on t s).locks ≡ length s.locks
 unfolding effect_on
@@ -215,7 +211,6 @@ effect-space no_effect s = refl
 effect-space (lock number) s = length-set s.locks number true
 effect-space to_inert s = refl
 effect-space to_dead s = refl
-effect-space to_failed s = refl
 
 module _ (prims : Primitives) (map : Map) where
   step-locked : (n : ℕ) (x : Command) (m : Machine) → not_power_up x → read_locked m.session n ≡ true
@@ -317,7 +312,7 @@ module _ (prims : Primitives) (map : Map) (m : Machine) (n : ℕ) where
       × ((n < length map → Lockable (partition map n).kind → ⊥) → Says 0x05 0 s.result.answer)
 
   pub lock-exact : ValidInputs map m → m.session.phase ≡ Ready → Taken (step prims map (ReadLock n) m)
-  unfolding obey act performed ready_act command_act read_lock_act perform effect_on copy_after is_ready
+  unfolding obey act performed ready_act command_act read_lock_act perform effect_on is_ready
   lock-exact r e =
       let to : Act → Type 0 = λ x. Taken (performed (perform x m.lent) m) in
       rw (step-obeys prims map (ReadLock n) m r)

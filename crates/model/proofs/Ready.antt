@@ -1,17 +1,15 @@
--- Commands after which Ready lasts. The idea: each is an act whose effect leaves the phase, where a check finds no fault.
-use mathlib.Core.Path.{◌≡◌, refl, sym, ◌∙◌}
+-- Commands after which Ready lasts. The idea: each is an act whose effect leaves the phase.
+use mathlib.Core.Path.{◌≡◌, refl, ◌∙◌}
 use mathlib.Core.Bool.{false}
-use mathlib.Core.Option.{none}
 use lib.Dec.{eqb}
 use borrow.Author.Tests.{eqb-false}
-use Rattle.basics.proofs.First.{some-not-none}
 use Rattle.partitions.specs.Map.{Map}
 use Rattle.model.specs.declared.Answer.{Answer}
 use Rattle.model.specs.declared.Command.{Command}
 use Rattle.model.specs.Answers.{code_of}
 use Rattle.model.specs.Lent.{Machine, Primitives}
 use Rattle.model.specs.Acts.{Effect}
-use Rattle.model.specs.Commands.{first_fault, ready_act, class_of, transiting}
+use Rattle.model.specs.Commands.{ready_act, class_of, transiting}
 use Rattle.model.specs.Step.{act, step, answer_to}
 use Rattle.model.specs.Claims.Terms.{ValidInputs, stays_ready}
 use Rattle.model.specs.declared.Answer.TheVariants.{StrokesUsed, NotBlank, Done, NotInTable, TokenNotLocked, TokenDiffers}
@@ -29,9 +27,8 @@ LeavesPhase x answer t = stays_ready x answer → leaves_phase t
 other : (x : Command) (answer : Answer) → class_of x ≡ transiting → eqb (code_of answer) 0x11 ≡ false → stays_ready x answer → ⊥
 other x answer e t h = eqb-false _ _ t (rw (e, stays_ready) at h)
 
-pub act-leaves-phase : (prims : Primitives) (map : Map) (m : Machine) (x : Command) → first_fault prims map m.session m.lent ≡ none
-    → Gives (LeavesPhase x) (ready_act prims map m x) m.lent
-act-leaves-phase prims map m x sound = act-gives prims map m (record {
+pub act-leaves-phase : (prims : Primitives) (map : Map) (m : Machine) (x : Command) → Gives (LeavesPhase x) (ready_act prims map m x)
+act-leaves-phase prims map m x = act-gives prims map m (record {
   refused = λ r h. tt;
   done = λ q value h. tt;
   not_blank = λ q cell h. tt;
@@ -44,7 +41,6 @@ act-leaves-phase prims map m x sound = act-gives prims map m (record {
     token_unlocked = λ h. other x TokenNotLocked e refl h;
     differs = λ h. other x TokenDiffers e refl h;
   };
-  failed = λ e r number f h. some-not-none (sym f ∙ sound);
 })
 
 -- a command after which Ready lasts is an act

@@ -1,6 +1,5 @@
 -- What a power-up found, until the next: one invariant for all that lasts since. The idea: a command that leaves the phase Ready is no transition that spent a
--- stroke and no check that failed; so it leaves the life cycle words, what is sensed locked and the copy as they were, and no command but power-up writes the
--- sensed digests. From it a check finds nothing, so that none fails.
+-- stroke; so it leaves the life cycle words, and what is sensed locked, as they were, and no command but power-up writes the copy or the sensed digests.
 use mathlib.Core.Path.{◌≡◌, refl, sym, ap, subst, ◌∙◌}
 use mathlib.Core.Bool.{true}
 use mathlib.Core.List.{List, [], ◌∷◌, ◌++◌}
@@ -8,6 +7,7 @@ use mathlib.Core.Option.{Option, none, some}
 use Prim.Native.Nat.{ℕ, ◌+◌, ◌*◌, ◌/◌, ◌≤◌, ◌<◌}
 use native.Mathlib.Omega.{arith}
 use lib.Dec.{eqb}
+use lib.ListN.{get_or}
 use borrow.Author.Tests.{eqb-false}
 use Rattle.basics.specs.Range.{listed}
 use Rattle.basics.proofs.Choice.{true-not-false, if-both, by_cases}
@@ -21,25 +21,24 @@ use Rattle.model.specs.declared.Command.{Command}
 use Rattle.model.specs.declared.Command.TheVariants.{Transition, PowerUp}
 use Rattle.model.specs.Answers.{code_of}
 use Rattle.model.specs.Session.{is_ready, sensed_at}
-use Rattle.model.specs.Lent.{Lent, Machine, Primitives}
-use Rattle.model.specs.Commands.{stored_digest, ready_act, class_of, access}
+use Rattle.model.specs.Lent.{Lent, Machine, Primitives, with_cells}
+use Rattle.model.specs.Commands.{stored_digest, class_of, access}
 use Rattle.model.specs.PowerUp.{PowerUpEnd, fails, succeeds, digests, verdict_of, life_cycle_in, copy_word, power_up_end, end_of, life_cycle_end, powered_copy}
 use Rattle.model.specs.PowerUp.{powered_session, powered_answer}
 use Rattle.model.specs.Step.{performed, act, power_up, after, machine_after, answer_to}
-use Rattle.model.specs.Claims.Terms.{ValidInputs, Cipher, Digested, SamePartition, not_power_up, NoPowerUp, stays_ready, Lasts}
+use Rattle.model.specs.Claims.Terms.{ValidInputs, Digested, SamePartition, not_power_up, NoPowerUp, stays_ready, Lasts}
 use Rattle.model.specs.Claims.Refusals.{early}
 use Rattle.model.specs.Claims.Sensing.{Since}
-use Rattle.model.proofs.Acts.{perform-frame, Gives, perform-gives, gives-map}
+use Rattle.model.proofs.Acts.{perform-frame, perform-gives}
 use Rattle.model.proofs.Frame.{Programmable, unlocked, life_cycle, life-closed, act-open}
 use Rattle.model.proofs.Steps.{after-append, obeys-act, step-obeys, step-up, up-inputs, act-inputs, step-inputs, after-inputs, after_act, powered_up}
-use Rattle.model.proofs.Locks.{same_refl, same-trans, stored_same, act-same}
-use Rattle.model.proofs.Sound.{since-sensed, since-sound}
-use Rattle.model.proofs.Refusals.{transitions-refuse, NotSix, six-by-fault, only-checks}
+use Rattle.model.proofs.Locks.{same_refl, same-trans, sensed-stored, stored_same, Locked, act-same}
+use Rattle.model.proofs.Refusals.{transitions-refuse}
 use Rattle.model.proofs.NotReady.{later-phase}
 use Rattle.model.proofs.LifeCycleWords.{Recorded, up-life, others-life}
 use Rattle.model.proofs.Ready.{act-leaves-phase, step-act}
 use Rattle.model.proofs.Classes.{by-class, lasts_on, access-not-transiting, no-power-up}
-use Rattle.model.proofs.Effects.{effect-sensed, effect-ready, effect-life, ready-copy, leaves-phase}
+use Rattle.model.proofs.Effects.{effect-sensed, effect-ready, effect-life, leaves-phase}
 use Rattle.partitions.specs.declared.Kind.TheVariants as kind
 use Rattle.model.specs.declared.Reason.TheVariants as reason
 
@@ -62,10 +61,9 @@ module _ (prims : Primitives) (map : Map) (F : fit map ≡ true) where
       (eqb state 20) (fails reason.LifeCycleFailed (LifeCycleFailed (256 * count + state))) (succeeds state count) (λ t e. absurd (true-not-false e refl))
       (λ t e. record { checked = refl; decodes = refl; not_scrap = eqb-false _ _ t; copy = refl; sensed = refl })
 
-  -- the invariant: what was found locked stays, and more while the phase is Ready
+  -- the invariant: while the phase is Ready
   pub record Held (c₀ : List ℕ) (m : Machine) : Type 0 where
     pub right : ValidInputs map m
-    pub locked : (n : ℕ) → Digested map n → (stored_digest (partition map n) c₀ ≡ 0 → ⊥) → SamePartition map n c₀ m.lent.cells
     pub holds : is_ready m.session.phase ≡ true → Since prims map c₀ m
 
   up-since : (m : Machine) → ValidInputs map m → is_ready (powered_up prims map m).session.phase ≡ true
@@ -86,20 +84,7 @@ module _ (prims : Primitives) (map : Map) (F : fit map ≡ true) where
       }
 
   pub up-held : (m : Machine) → ValidInputs map m → Held m.lent.cells (machine_after prims map PowerUp m)
-  up-held m r =
-      rw (step-up prims map m r, machine_after)
-      (record { right = up-inputs prims map m r; locked = λ n D z. (unfold power_up in same_refl); holds = up-since m r })
-
-  -- ---- partitions that were found locked, through every command but power-up
-
-  -- while the phase is Ready their sensed digest is nonzero
-  pub held-sensed : (c₀ : List ℕ) (m : Machine) → Held c₀ m → (n : ℕ) → Digested map n → (stored_digest (partition map n) c₀ ≡ 0 → ⊥)
-      → is_ready m.session.phase ≡ true → sensed_at m.session n ≡ 0 → ⊥
-  held-sensed c₀ m h n D z r e = z (sym (since-sensed prims map F c₀ m (h.holds r) n D) ∙ e)
-
-  act-locked : (c₀ : List ℕ) (x : Command) (m : Machine) → Held c₀ m → (n : ℕ) → Digested map n → (stored_digest (partition map n) c₀ ≡ 0 → ⊥)
-      → SamePartition map n c₀ (after_act prims map x m).lent.cells
-  act-locked c₀ x m h n D z = same-trans (h.locked n D z) (act-same prims map F n D x m (held-sensed c₀ m h n D z))
+  up-held m r = rw (step-up prims map m r, machine_after) (record { right = up-inputs prims map m r; holds = up-since m r })
 
   -- ---- a command that is neither power-up nor transition
 
@@ -113,19 +98,26 @@ module _ (prims : Primitives) (map : Map) (F : fit map ≡ true) where
       shut j lo hi (unlocked r d z aim) = true-not-false d (life-closed prims map F j (only map F (omega (arith, life-cycle-last map F)) lo hi))
       shut j lo hi (life_cycle r t e) = access-not-transiting x n t
 
-  act-since : (c₀ : List ℕ) (x : Command) (m : Machine) → class_of x ≡ access → is_ready (after_act prims map x m).session.phase ≡ true → Held c₀ m
-      → Since prims map c₀ m
+  since-locked : (c₀ : List ℕ) (m : Machine) → Since prims map c₀ m → (n : ℕ) (D : Digested map n) → (stored_digest (partition map n) c₀ ≡ 0 → ⊥)
+      → Locked prims map F n D m
+  unfolding sensed_at
+  since-locked c₀ m s n D z = record {
+    burnt = λ e. z (stored_same prims map F n D c₀ m.lent.cells (s.locked n D z) ∙ e);
+    is_sensed = λ r e. z (sym (sensed-stored prims map F n D (with_cells c₀ m.lent)) ∙ sym (ap (λ (d : List ℕ). get_or d n 0) s.sensed) ∙ e);
+  }
+
+  act-since : (c₀ : List ℕ) (x : Command) (m : Machine) → class_of x ≡ access → is_ready (after_act prims map x m).session.phase ≡ true → Since prims map c₀ m
       → Since prims map c₀ (after_act prims map x m)
-  act-since c₀ x m n e h s = record {
+  act-since c₀ x m n e s = record {
     right = act-inputs prims map x m s.right;
     ready = e;
     checked = unfold act performed in s.checked;
     sensed = unfold act performed in (effect-sensed _ m.session ∙ s.sensed);
-    copy = unfold act performed in (ready-copy _ m.session m.lent.copy e ∙ s.copy);
+    copy = unfold act performed in s.copy;
     unmoved = same-trans s.unmoved (life-shut x m n);
     life = others-life prims map F x m n ∙ (unfold act performed in (rw ((effect-life _ _).0, (effect-life _ _).1) s.life));
     not_scrap = unfold act performed in (rw (effect-life _ _).0 s.not_scrap);
-    locked = act-locked c₀ x m h;
+    locked = λ k D z. same-trans (s.locked k D z) (act-same prims map F k D x m (since-locked c₀ m s k D z));
   }
 
   -- ---- every command but power-up
@@ -133,8 +125,7 @@ module _ (prims : Primitives) (map : Map) (F : fit map ≡ true) where
   acts-held : (c₀ : List ℕ) (x : Command) (m : Machine) → not_power_up x → class_of x ≡ access → Held c₀ m → Held c₀ (machine_after prims map x m)
   acts-held c₀ x m u n h = rw (step-obeys prims map x m h.right ∙ obeys-act prims map x m (no-power-up x u), machine_after) (record {
     right = act-inputs prims map x m h.right;
-    locked = act-locked c₀ x m h;
-    holds = λ e. act-since c₀ x m n e h (h.holds (still e));
+    holds = λ e. act-since c₀ x m n e (h.holds (still e));
   })
     where
       still : is_ready (after_act prims map x m).session.phase ≡ true → is_ready m.session.phase ≡ true
@@ -142,7 +133,7 @@ module _ (prims : Primitives) (map : Map) (F : fit map ≡ true) where
 
   -- a transition that leaves the phase Ready changes nothing
   transition-held : (c₀ : List ℕ) (m : Machine) (target high low : ℕ) → Held c₀ m → Held c₀ (machine_after prims map (Transition target high low) m)
-  transition-held c₀ m target high low h = record { right = step-inputs prims map x m h.right; locked = kept; holds = go }
+  transition-held c₀ m target high low h = record { right = step-inputs prims map x m h.right; holds = go }
     where
       x : Command
       x = Transition target high low
@@ -150,16 +141,13 @@ module _ (prims : Primitives) (map : Map) (F : fit map ≡ true) where
       code : ℕ
       code = code_of (answer_to prims map x m)
 
-      kept : (n : ℕ) → Digested map n → (stored_digest (partition map n) c₀ ≡ 0 → ⊥) → SamePartition map n c₀ (machine_after prims map x m).lent.cells
-      kept = rw (step-obeys prims map x m h.right ∙ obeys-act prims map x m (no-power-up x tt), machine_after) (act-locked c₀ x m h)
-
       go : is_ready (machine_after prims map x m).session.phase ≡ true → Since prims map c₀ (machine_after prims map x m)
       go e =
           by_cases (early (code_of (answer_to prims map (Transition target high low) m)))
           (λ t. (let q = (transitions-refuse prims map m target high low).0 t in subst (Since prims map c₀) (sym q) (h.holds (rw q at e))))
           (λ t. absurd (true-not-false e (ap (λ s. is_ready s.phase) ((transitions-refuse prims map m target high low).1 t).1 ∙ later-phase code)))
 
-  pub step-held : (c₀ : List ℕ) (x : Command) (m : Machine) → not_power_up x → Held c₀ m → Held c₀ (machine_after prims map x m)
+  step-held : (c₀ : List ℕ) (x : Command) (m : Machine) → not_power_up x → Held c₀ m → Held c₀ (machine_after prims map x m)
   step-held c₀ =
       by-class (λ (x : Command). (m : Machine) → not_power_up x → Held c₀ m → Held c₀ (machine_after prims map x m)) (λ m u h. absurd u)
       (λ target high low m u h. transition-held c₀ m target high low h) (λ x e m u h. acts-held c₀ x m u e h)
@@ -204,48 +192,6 @@ module _ (prims : Primitives) (map : Map) (F : fit map ≡ true) where
   pub recorded : (m : Machine) → Reached m → is_ready m.session.phase ≡ true → Recorded prims map m
   recorded m h e = (h.held.holds e).life
 
-  -- ---- a partition that a power-up found locked never changes
-
-  module _ (n : ℕ) (D : Digested map n) where
-    -- whatever is found locked now stays through these commands
-    abbrev Stays : List Command → Type 0
-    Stays l =
-        (c₀ : List ℕ) (m : Machine) → Held c₀ m → (stored_digest (partition map n) c₀ ≡ 0 → ⊥) → SamePartition map n c₀ (after prims map l m).lent.cells
-
-    one_more : (l : List Command) → Stays l → (x : Command) → Stays (x ∷ l)
-    unfolding after
-    one_more l h =
-        by-class (λ (x : Command). Stays (x ∷ l)) again (λ target high low c₀ m k. h c₀ _ (step-held c₀ (Transition target high low) m tt k))
-        (λ x e c₀ m k. h c₀ _ (step-held c₀ x m (rw (e, not_power_up) tt) k))
-      where
-        again : (c₀ : List ℕ) (m : Machine) → Held c₀ m → (stored_digest (partition map n) c₀ ≡ 0 → ⊥)
-            → SamePartition map n c₀ (after prims map l (machine_after prims map PowerUp m)).lent.cells
-        again c₀ m k z =
-            let same = k.locked n D z in
-            same-trans same (h m.lent.cells _ (up-held m k.right) (λ q. z (stored_same prims map F n D c₀ m.lent.cells same ∙ q)))
-
-    stays : (l : List Command) → Stays l
-    stays [] = λ c₀ m h z. unfold after in (h.locked n D z)
-    stays (x ∷ l) = one_more l (stays l) x
-
-    pub locked-since : (m : Machine) → ValidInputs map m → (l₁ l₂ : List Command) → (stored_digest (partition map n) (after prims map l₁ m).lent.cells ≡ 0 → ⊥)
-        → SamePartition map n (after prims map l₁ m).lent.cells (after prims map (l₁ ++ PowerUp ∷ l₂) m).lent.cells
-    unfolding after
-    locked-since m r l₁ l₂ z =
-        let m₁ = after prims map l₁ m in
-        rw after-append (stays l₂ m₁.lent.cells (machine_after prims map PowerUp m₁) (up-held m₁ (after-inputs prims map l₁ m r)) z)
-
-  -- ---- no command fails
-
-  pub held-passes : Cipher prims → (c₀ : List ℕ) (m : Machine) → Held c₀ m → (x : Command) → Gives NotSix (ready_act prims map m x) m.lent
-  held-passes C c₀ m h x =
-      gives-map (λ answer effect t z. (t z).found (since-sound prims map F c₀ m (h.holds (t z).ready) C)) (six-by-fault prims map m x)
-
-  pub never-six : Cipher prims → (m : Machine) → Reached m → (x : Command) → not_power_up x → code_of (answer_to prims map x m) ≡ 0x06 → ⊥
-  never-six C m h x u z =
-      let f = only-checks prims map m x u z in
-      f.found (since-sound prims map F h.found m (h.held.holds f.ready) C)
-
   -- ---- while Ready lasts
 
   -- a power-up that answers 0 leaves the phase Ready
@@ -276,21 +222,25 @@ module _ (prims : Primitives) (map : Map) (F : fit map ≡ true) where
       → Since prims map m.lent.cells (machine_after prims map PowerUp m)
   first-since m r = rw (step-up prims map m r, machine_after, answer_to) (λ e. up-since m r (succeeded-ready m e))
 
-  module _ (C : Cipher prims) (c₀ : List ℕ) where
-    act-ready : (x : Command) (m : Machine) → stays_ready x (act prims map x m).result.answer → Since prims map c₀ m
-        → is_ready (after_act prims map x m).session.phase ≡ true
-    unfolding act performed
-    act-ready x m h s =
-        rw (leaves-phase _ m.session (perform-gives (act-leaves-phase prims map m x (since-sound prims map F c₀ m s C)) h)) s.ready
+  act-ready : (x : Command) (m : Machine) → stays_ready x (act prims map x m).result.answer → is_ready m.session.phase ≡ true
+      → is_ready (after_act prims map x m).session.phase ≡ true
+  unfolding act performed
+  act-ready x m h e = rw (leaves-phase _ m.session (perform-gives (act-leaves-phase prims map m x) m.lent h)) e
 
-    pub step-since : (x : Command) (m : Machine) → stays_ready x (answer_to prims map x m) → Since prims map c₀ m
-        → Since prims map c₀ (machine_after prims map x m)
-    step-since x m h s =
-        let e = step-act prims map x m s.right h in
-        (step-held c₀ x m (lasts_on x (answer_to prims map x m) h) (record { right = s.right; locked = s.locked; holds = λ q. s })).holds
-        (rw (e, machine_after) (act-ready x m (rw (e, answer_to) at h) s))
+  pub step-since : (c₀ : List ℕ) (x : Command) (m : Machine) → stays_ready x (answer_to prims map x m) → Since prims map c₀ m
+      → Since prims map c₀ (machine_after prims map x m)
+  step-since c₀ x m h s =
+      let e = step-act prims map x m s.right h in
+      (step-held c₀ x m (lasts_on x (answer_to prims map x m) h) (record { right = s.right; holds = λ q. s })).holds
+      (rw (e, machine_after) (act-ready x m (rw (e, answer_to) at h) s.ready))
 
-    pub after-since : (l : List Command) (m : Machine) → Lasts prims map l m → Since prims map c₀ m → Since prims map c₀ (after prims map l m)
-    unfolding Lasts after
-    after-since [] m h s = s
-    after-since (x ∷ l) m h s = after-since l (machine_after prims map x m) h.1 (step-since x m h.0 s)
+  pub after-since : (c₀ : List ℕ) (l : List Command) (m : Machine) → Lasts prims map l m → Since prims map c₀ m → Since prims map c₀ (after prims map l m)
+  unfolding Lasts after
+  after-since c₀ [] m h s = s
+  after-since c₀ (x ∷ l) m h s = after-since c₀ l (machine_after prims map x m) h.1 (step-since c₀ x m h.0 s)
+
+  -- ---- what is sensed is what was stored
+
+  pub since-sensed : (c₀ : List ℕ) (m : Machine) → Since prims map c₀ m → (n : ℕ) → Digested map n → sensed_at m.session n ≡ stored_digest (partition map n) c₀
+  unfolding sensed_at
+  since-sensed c₀ m s n D = ap (λ (d : List ℕ). get_or d n 0) s.sensed ∙ sensed-stored prims map F n D (with_cells c₀ m.lent)

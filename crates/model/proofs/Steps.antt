@@ -20,7 +20,7 @@ use Rattle.model.specs.declared.Command.{Command}
 use Rattle.model.specs.declared.Command.TheVariants.{PowerUp}
 use Rattle.model.specs.Answers.{code_of}
 use Rattle.model.specs.Lent.{Lent, Machine, Primitives, with_cells, with_copy, right_lengths, right_sizes, sizes_of}
-use Rattle.model.specs.Acts.{Performed, perform, effect_on, copy_after, no_effect, refuse}
+use Rattle.model.specs.Acts.{Performed, perform, effect_on, no_effect, refuse}
 use Rattle.model.specs.Commands.{ready_act}
 use Rattle.model.specs.PowerUp.{PowerUpEnd, fails, succeeds, powered_copy, power_up_end}
 use Rattle.model.specs.Step.{Step, unchanged, performed, act, power_up, obey, step, after, machine_after, judgement}
@@ -30,13 +30,12 @@ use Rattle.model.specs.Session.{is_ready}
 use Rattle.model.specs.declared.Sizes.{Sizes}
 use Rattle.model.proofs.Classes.{by-class}
 use Rattle.model.proofs.Acts.{perform_kept, perform-length}
-use Rattle.model.proofs.Effects.{copy-length}
 use Rattle.model.proofs.WordSizes.{perform-small, act-small}
 
 -- what an act came to that left the cells and has no effect
 pub same-machine : (m : Machine) (r : Performed) → r.cells ≡ m.lent.cells → r.effect ≡ no_effect
     → (performed r m).result.machine ≡ m
-unfolding performed effect_on copy_after
+unfolding performed effect_on
 same-machine m r e f = rw (e, f) refl
 
 -- nothing is refused where lengths are right and constants valid, and only there
@@ -172,11 +171,10 @@ module _ (prims : Primitives) (map : Map) where
   pub cells-length : (m : Machine) → ValidInputs map m → length m.lent.cells ≡ limit map / 2
   cells-length m r = (lengths-of m.lent r.lengths).0
 
-  -- what is lent with other cells and another copy, each of the same length, or with another copy alone
-  both-again : (l : Lent) (c k : List ℕ) → right_lengths map l ≡ true → length c ≡ length l.cells → length k ≡ length l.copy
-      → right_lengths map (with_copy k (with_cells c l)) ≡ true
+  -- what is lent with other cells, or another copy, of the same length
+  cells-again : (l : Lent) (c : List ℕ) → right_lengths map l ≡ true → length c ≡ length l.cells → right_lengths map (with_cells c l) ≡ true
   unfolding right_sizes
-  both-again l c k r e f = rw (e, f) r
+  cells-again l c r e = rw e r
 
   copy-again : (l : Lent) (k : List ℕ) → right_lengths map l ≡ true → length k ≡ limit map / 2 → right_lengths map (with_copy k l) ≡ true
   unfolding right_sizes
@@ -194,9 +192,7 @@ module _ (prims : Primitives) (map : Map) where
 
   act-lengths : (x : Command) (m : Machine) → right_lengths map m.lent ≡ true → right_lengths map (after_act x m).lent ≡ true
   unfolding act performed
-  act-lengths x m e =
-      both-again m.lent (outcome x m).cells (copy_after (outcome x m).effect m.lent.copy) e (perform-length (ready_act prims map m x) m.lent)
-      (copy-length (outcome x m).effect m.lent.copy)
+  act-lengths x m e = cells-again m.lent (outcome x m).cells e (perform-length (ready_act prims map m x) m.lent)
 
   pub obey-lengths : (x : Command) (m : Machine) → right_lengths map m.lent ≡ true → right_lengths map (obey prims map x m).result.machine.lent ≡ true
   obey-lengths x m e = obey-both (λ s _. right_lengths map s.result.machine.lent ≡ true) x m m (up-lengths m e) (act-lengths x m e)

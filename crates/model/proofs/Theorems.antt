@@ -24,10 +24,9 @@ use Rattle.model.specs.Claims.Sensing.{Sensing}
 use Rattle.model.specs.Claims.All.{Claims}
 use Rattle.model.proofs.Steps.{bits-stay, step-constants}
 use Rattle.model.proofs.Refusals.{commands-refuse, power-ups-refuse, transitions-refuse}
-use Rattle.model.proofs.Checks.{six-leaves}
-use Rattle.model.proofs.CheckCodes.{checks}
 use Rattle.model.proofs.LeftOut.{left-out}
 use Rattle.model.proofs.Deaths.{deaths-named}
+use Rattle.model.proofs.Locks.{locked-since}
 use Rattle.model.proofs.Places.{places}
 use Rattle.model.proofs.Order.{order}
 use Rattle.model.proofs.ReadCodes.{read-exact, read-shows, front-exact}
@@ -47,7 +46,7 @@ use Rattle.model.proofs.Comparisons.{step-compared, no-comparison}
 use Rattle.model.proofs.TransitionLeaves.{leaves, reached-fair}
 use Rattle.model.proofs.LifeCycleTables.{life-cycles}
 use Rattle.model.proofs.Tokens.{tokens}
-use Rattle.model.proofs.Since.{since-held, since-reached, locked-since}
+use Rattle.model.proofs.Since.{since-held, since-reached}
 use Rattle.model.proofs.PowerUps.{alone, again, cleared, failed}
 use Rattle.model.proofs.FrontReads.{fronts, device-final}
 use Rattle.model.proofs.Quiet.{after-unsensed, step-recorded}
@@ -63,7 +62,6 @@ use Rattle.model.proofs.Everything.{everything}
 pub refusals : (prims : Primitives) (map : Map) → Refusals prims map
 refusals prims map = record {
   commands = commands-refuse prims map;
-  failures = six-leaves prims map;
   power_ups = power-ups-refuse prims map;
   transitions = transitions-refuse prims map;
   deaths = λ m x reason. deaths-named prims map m reason x;
@@ -73,12 +71,12 @@ refusals prims map = record {
 pub demand3 : (prims : Primitives) → Cipher prims → (map : Map) → fit map ≡ true → Demand3 prims map
 demand3 prims C map F = record {
   bits = bits-stay prims map;
-  locks = λ m r n D l₁ l₂ h. locked-since prims map F n D m r l₁ l₂ h;
+  locks = λ m r n D l₁ l₂ h. (locked-since prims map F n D m r l₁ l₂ h).1;
   writes = λ m r l₀ l₁ ready a value v al. (
     write-taken prims C map F m r l₀ l₁ ready a value v al,
     λ l₂ lasts unwritten. reads-back prims C map F m r l₀ l₁ ready a value v al l₂ unwritten lasts,
   );
-  chips = two-chips prims C map F;
+  chips = two-chips prims map F;
   strokes = never-four prims map F;
 }
 
@@ -193,7 +191,6 @@ claims prims C G map F = record {
   failed_power_ups = failed-power-ups prims G map F;
   read_locks = read-locks prims map F;
   sensing = sensing prims map F;
-  checks = checks prims C map F;
 }
 
 pub token-places : TokenPlaces

@@ -1,27 +1,29 @@
 -- Tokens, from the write of a hash to its comparison. The idea: the copy holds each block of the secret unscrambled, and unscrambling undoes the scrambling of
 -- the write; so the eight words are the two halves.
-use mathlib.Core.Path.{◌≡◌, sym, ap, ap₂, subst, ◌∙◌}
+use mathlib.Core.Path.{◌≡◌, refl, sym, ap, ap₂, subst, ◌∙◌}
 use mathlib.Core.Bool.{Bool, true}
 use mathlib.Core.List.{List, ◌∷◌, ◌++◌}
 use mathlib.Core.Logic.{◌↔◌}
 use Prim.Native.Nat.{ℕ, ◌+◌, ◌*◌, ◌-◌, ◌/◌, ◌%◌, ◌^◌, ◌≤◌, ◌<◌}
 use native.Mathlib.Omega.{arith}
-use lib.ListN.{length}
+use lib.ListN.{length, get_or}
+use Rattle.basics.proofs.Range.{listed_at}
 use Rattle.words.specs.Words.{number_of, words_of, part_at}
-use Rattle.words.proofs.Words.{number-block}
-use Rattle.words.proofs.Parts.{part-number-lt, number-halves}
+use Rattle.words.proofs.Words.{length-words, number-block}
+use Rattle.words.proofs.Parts.{part-number-lt, part-at, number-halves}
 use Rattle.partitions.specs.declared.Kind.{Kind}
 use Rattle.partitions.specs.declared.Partition.{Partition}
 use Rattle.partitions.specs.Fitness.{fit}
-use Rattle.partitions.specs.Map.{Map, partition, number_of_kind}
+use Rattle.partitions.specs.Map.{Map, partition, limit, number_of_kind}
 use Rattle.partitions.proofs.KindRights.{scrambled-direct}
-use Rattle.partitions.proofs.Map.{partition-fit}
+use Rattle.partitions.proofs.Map.{only, partition-at, partition-fit, end-within}
 use Rattle.partitions.proofs.Secrets.{secret0, secret2}
 use Rattle.life_cycle.specs.declared.Token.{Token}
 use Rattle.model.specs.declared.Command.TheVariants.{PowerUp}
 use Rattle.model.specs.Session.{sensed_at}
-use Rattle.model.specs.Lent.{Machine, Primitives}
+use Rattle.model.specs.Lent.{Machine, Primitives, with_cells}
 use Rattle.model.specs.Commands.{stored_digest}
+use Rattle.model.specs.PowerUp.{copy_word}
 use Rattle.model.specs.Step.{after}
 use Rattle.model.specs.Claims.Terms.{Cipher, Digested}
 use Rattle.model.specs.Claims.Numbers.{KeyAt, Agrees, eight_from}
@@ -30,9 +32,8 @@ use Rattle.model.specs.Claims.Transitions.{Compared, Stored}
 use Rattle.model.specs.Claims.Tokens.{TokenAt, test_unlock, test_exit, rma, HashStored, Tokens}
 use Rattle.model.proofs.KindNames.{keyed-scrambled}
 use Rattle.model.proofs.Steps.{after-constants}
-use Rattle.model.proofs.CopyWords.{copy-block}
-use Rattle.model.proofs.Sound.{since-sensed}
-use Rattle.model.proofs.Since.{since-held}
+use Rattle.model.proofs.Since.{since-held, since-sensed}
+use Rattle.model.proofs.PowerUpCodes.{secret-copy}
 use Rattle.partitions.specs.declared.Kind.TheVariants as kind
 
 module _ (prims : Primitives) (C : Cipher prims) (map : Map) (F : fit map ≡ true) where
@@ -56,10 +57,20 @@ module _ (prims : Primitives) (C : Cipher prims) (map : Map) (F : fit map ≡ tr
             ap (λ (ws : List ℕ). prims.decrypt K (number_of ws)) e ∙ ap (prims.decrypt K) (number-block (prims.encrypt K value) (C.fits K value fits v))
             ∙ C.back K value fits v
 
+        word : (i : ℕ) → i < 4 → get_or m.lent.copy (at + i) 0 ≡ get_or (words_of 4 value) i 0
+        word i l =
+            let f = partition-fit map F known in
+            let low : at + i < limit map / 2 = omega (arith, f.digest-last, end-within map F known, f.end-aligned) in
+            let there = partition-at map (2 * (at + i))
+            (only map F known (omega (arith, f.start-aligned)) (omega (arith, f.digest-last, f.digest-aligned))) in
+            let first-word : (at + i) / 4 * 4 ≡ at = omega arith in
+            let place : (at + i) % 4 ≡ i = omega arith in
+            ap (λ (ws : List ℕ). get_or ws (at + i) 0) s.copy ∙ listed_at (copy_word prims map m.lent.constants c₀) 0 (limit map / 2) (at + i) low
+            ∙ secret-copy prims map F (with_cells c₀ m.lent) (at + i) low {first = first} (rw there key) (rw there (omega (arith, f.digest-aligned)))
+            ∙ rw (first-word, place, block) refl
+
         words : part_at m.lent.copy at 4 ≡ words_of 4 value
-        words =
-            ap (λ (ws : List ℕ). part_at ws at 4) s.copy ∙ copy-block prims map F m.lent.constants c₀ n first known key at lo hi aligned
-            ∙ ap (words_of 4) block
+        words = part-at m.lent.copy (words_of 4 value) at 4 (length-words 4 value) word
 
   -- sixteen bytes of a secret's data
   data-space : {first : ℕ} (k : Kind) (offset size : ℕ) → number_of_kind map k < length map → (partition map (number_of_kind map k)).kind ≡ k

@@ -53,11 +53,11 @@ pub record Ends (T : Answer → Effect → Type 0) : Type 0 where
   pub token_unlocked : T TokenNotLocked to_inert
   pub differs : T TokenDiffers to_inert
 
-pub entry_gives : {T : Answer → Effect → Type 0} → Ends T → (prims : Primitives) (map : Map) (m : Machine) (entry : Entry) (target given : ℕ) (l : Lent)
-    → Gives T (authorized_act prims map m (authorization prims map m.session entry given) target) l
+pub entry_gives : {T : Answer → Effect → Type 0} → Ends T → (prims : Primitives) (map : Map) (m : Machine) (entry : Entry) (target given : ℕ)
+    → Gives T (authorized_act prims map m (authorization prims map m.session entry given) target)
 unfolding move_act
-entry_gives {T} ends prims map m entry target given l =
-    entry-all prims map m target (λ (x : Act). Gives T x l)
+entry_gives {T} ends prims map m entry target given =
+    entry-all prims map m target (Gives T)
     (record {
       moved = programs ends.not-blank (says ends.moved);
       forbidden = says ends.forbidden;

@@ -21,7 +21,7 @@ use Rattle.model.specs.declared.Command.{Command}
 use Rattle.model.specs.Lent.{Machine, Primitives, Lent, with_cells}
 use Rattle.model.specs.Acts.{Act, Performed, with_comparison, perform}
 use Rattle.model.specs.Commands.{ready_act}
-use Rattle.model.proofs.Acts.{after_both, inspected-both, Within}
+use Rattle.model.proofs.Acts.{after_both, Within}
 use Rattle.model.proofs.Leaves.{act-within}
 
 set-small : (c : List ℕ) (at v : ℕ) → v < 65536 → Words c → Words (set c at v)
@@ -78,8 +78,6 @@ perform-small (Within.programs {rule = rule} {at = at} {words = words} v next) l
     (λ e. perform-small next (with_cells (program_cells rule l.cells at words) l) (program-small rule l.cells words at v w)) (λ cell e. w)
 perform-small (Within.compares {test = test} same other) l w =
     if-both (λ (r : Performed). Words r.cells) _ _ _ (λ e. perform-small same l w) (λ e. perform-small other l w)
-perform-small (Within.inspects {find = find} next) l w =
-    inspected-both (λ (r : Performed). Words r.cells) (find l) _ _ (λ e. perform-small next l w) (λ number e. w)
 
 pub act-small : (prims : Primitives) (map : Map) (m : Machine) (x : Command) → Words m.lent.constants → Small (ready_act prims map m x)
 act-small prims map m x K = act-within prims map m (record {

@@ -37,8 +37,7 @@ use Rattle.model.specs.Claims.Burns.{WriteDenied, past, in_life_cycle, in_hardwa
 use Rattle.model.proofs.KindNames.{hardware-kind, kind-hardware}
 use Rattle.model.proofs.Acts.{after_both}
 use Rattle.model.proofs.Steps.{step-obeys, after-inputs, after-constants, step-constants, cells-length}
-use Rattle.model.proofs.Sound.{since-sensed}
-use Rattle.model.proofs.Since.{first-since, after-since}
+use Rattle.model.proofs.Since.{first-since, after-since, since-sensed}
 use Rattle.model.proofs.Writes.{write-takes}
 use Rattle.model.proofs.TransitionCells.{put-words}
 use Rattle.model.proofs.Guards.{WriteGuards, not-locked, allowed-below, write-guards, write-open, allowed-there}
@@ -165,7 +164,7 @@ module _ (prims : Primitives) (C : Cipher prims) (map : Map) (F : fit map ≡ tr
   write_allowed m r l₀ l₁ ready a value =
       let m₀ = after prims map l₀ m in
       let m₁ = after prims map l₁ (machine_after prims map PowerUp m₀) in
-      let f = after-since prims map F C m₀.lent.cells l₁ (machine_after prims map PowerUp m₀) ready.lasts
+      let f = after-since prims map F m₀.lent.cells l₁ (machine_after prims map PowerUp m₀) ready.lasts
       (first-since prims map F m₀ (after-inputs prims map l₀ m r) ready.succeeded) in
       let k : m₁.lent.constants ≡ m.lent.constants = after-constants prims map l₁ _ ∙ step-constants prims map PowerUp m₀
       ∙ after-constants prims map l₀ m in (

@@ -42,8 +42,7 @@ use Rattle.model.proofs.Frame.{HardwareDigestWord, programs-none-granule, progra
 use Rattle.model.proofs.Steps.{outcome, step-all, cells-length, step-inputs, after-inputs, step-constants, after-constants}
 use Rattle.model.proofs.SecondBurns.{after-held}
 use Rattle.model.proofs.Ready.{step-act}
-use Rattle.model.proofs.Sound.{since-sensed}
-use Rattle.model.proofs.Since.{first-since, step-since, after-since}
+use Rattle.model.proofs.Since.{first-since, step-since, after-since, since-sensed}
 use Rattle.model.proofs.Targets.{WriteBurns, left, burnt, write-burnt}
 use Rattle.model.proofs.Classes.{by-writing}
 use Rattle.model.proofs.Guards.{allowed-both, allowed-below, WriteGuards, read-open, write-guards, write-open}
@@ -318,7 +317,7 @@ module _ (prims : Primitives) (C : Cipher prims) (map : Map) (F : fit map ≡ tr
 
     since : Since prims map c₀ m₁
     since =
-        after-since prims map F C c₀ l₁ (powered m l₀ l₁) ready.lasts
+        after-since prims map F c₀ l₁ (powered m l₀ l₁) ready.lasts
         (first-since prims map F (found m l₀ l₁) (after-inputs prims map l₀ m r) ready.succeeded)
 
     same-constants : m₁.lent.constants ≡ m.lent.constants
@@ -373,7 +372,7 @@ module _ (prims : Primitives) (C : Cipher prims) (map : Map) (F : fit map ≡ tr
           → (in_digest (partition_at map b) b ≡ false → read_locked m₂.session (number_at map b) ≡ false)
           → answer_to prims map (Read b) m₂ ≡ Done (used_value map a value)
       reads-back unwritten lasts b low same =
-          let f = after-since prims map F C c₀ l₂ s.result.machine lasts (step-since prims map F C c₀ (Write a value) m₁ tt since) in
+          let f = after-since prims map F c₀ l₂ s.result.machine lasts (step-since prims map F c₀ (Write a value) m₁ tt since) in
           read_back a al.below guards.direct guards.not_digest b low same m₂ still-inputs value v (still-held (unwritten-stays unwritten)) c₀ f
           (eqb-true _ 0 (not-false _ guards.unlocked))
 

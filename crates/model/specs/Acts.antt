@@ -1,8 +1,6 @@
--- A command is first decided, as an act, and then performed on what is lent: it says an answer, programs words, compares a token, or inspects what is lent.
-use Rattle.std.specs.Prelude.{ℕ, Bool, List, [], ◌∷◌, length}
-use Rattle.std.proofs.Math.Option.{Option, none, some}
+-- A command is first decided, as an act, and then performed on what is lent: it says an answer, programs words, or compares a token.
+use Rattle.std.specs.Prelude.{ℕ, Bool, List, [], ◌∷◌}
 use Rattle.basics.specs.Choice.{if◌then◌else◌}
-use Rattle.basics.specs.Range.{listed}
 use Rattle.words.specs.declared.Rule.{Rule}
 use Rattle.words.specs.declared.Programmed.{Programmed}
 use Rattle.words.specs.declared.Programmed.TheVariants as programmed
@@ -11,42 +9,29 @@ use Rattle.model.specs.declared.Reason.TheVariants as reason
 use Rattle.model.specs.declared.Phase.TheVariants.{Inert, Dead}
 use Rattle.model.specs.declared.Session.{Session}
 use Rattle.model.specs.declared.Answer.{Answer}
-use Rattle.model.specs.declared.Answer.TheVariants.{NotBlank, DigestFailed}
+use Rattle.model.specs.declared.Answer.TheVariants.{NotBlank}
 use Rattle.model.specs.Session.{in_phase, with_lock}
 use Rattle.model.specs.Lent.{Lent, with_cells}
 
--- what becomes of the session record and of the sensed copy: both stay, a partition is read-locked, the phase becomes Inert or Dead 4, or an inspection has
--- failed
+-- what becomes of the session record: it stays, a partition is read-locked, the phase becomes Inert or Dead 4
 pub data Effect : Type 0 where
   no_effect : Effect
   lock : ℕ → Effect
   to_inert : Effect
   to_dead : Effect
-  to_failed : Effect
 
 unfoldable pub effect_on : Effect → Session → Session
 effect_on no_effect s = s
 effect_on (lock number) s = with_lock number s
 effect_on to_inert s = in_phase Inert s
 effect_on to_dead s = in_phase (Dead reason.BitCleared) s
-effect_on to_failed s = in_phase (Dead reason.DigestFailed) s
-
--- "The first failure answers 6 with the partition, zeroes the copy and leaves Dead 6, the rest of the record as it was" (request Seven)
-unfoldable pub copy_after : Effect → List ℕ → List ℕ
-copy_after no_effect copy = copy
-copy_after (lock number) copy = copy
-copy_after to_inert copy = copy
-copy_after to_dead copy = copy
-copy_after to_failed copy = listed (λ j. 0) 0 (length copy)
 
 -- `program` has the rule of refusal, the first cell, the words, the effect where they are refused, and what follows where they are done;
--- `compare` has a test of what is lent, what follows where it passes and where it fails; `inspect` has what finds in what is lent the partition that fails, if
--- any, and what follows where none does
+-- `compare` has a test of what is lent, what follows where it passes and where it fails
 pub data Act : Type 0 where
   say : Answer → Effect → Act
   program : Rule → ℕ → List ℕ → Effect → Act → Act
   compare : (Lent → Bool) → Act → Act → Act
-  inspect : (Lent → Option ℕ) → Act → Act
 
 -- "A refusal leaves cells, copy and record as they were"
 abbrev pub refuse : Answer → Act
@@ -64,11 +49,6 @@ unfoldable pub after_program : Programmed → Performed → (ℕ → Performed) 
 after_program programmed.Done next refused = next
 after_program (programmed.Refused cell) next refused = refused cell
 
--- where no partition fails the act goes on, the first that does ends it
-unfoldable pub after_inspection : Option ℕ → Performed → (ℕ → Performed) → Performed
-after_inspection none next failed = next
-after_inspection (some number) next failed = failed number
-
 -- a comparison's result stands before those of what follows
 unfoldable pub with_comparison : Bool → Performed → Performed
 with_comparison result r = record { cells = r.cells; answer = r.answer; effect = r.effect; compared = result ∷ r.compared }
@@ -80,5 +60,3 @@ perform (program rule at words effect next) l =
     after_program (program_answer rule l.cells at words) (perform next (with_cells (program_cells rule l.cells at words) l))
     (λ cell. record { cells = l.cells; answer = NotBlank cell; effect = effect; compared = [] })
 perform (compare test same other) l = with_comparison (test l) (if test l then perform same l else perform other l)
-perform (inspect find next) l =
-    after_inspection (find l) (perform next l) (λ number. record { cells = l.cells; answer = DigestFailed number; effect = to_failed; compared = [] })

@@ -7,7 +7,7 @@ use Rattle.words.specs.Words.{words_of}
 use Rattle.partitions.specs.Map.{Map}
 use Rattle.model.specs.declared.Answer.{Answer}
 use Rattle.model.specs.declared.Command.{Command}
-use Rattle.model.specs.declared.Command.TheVariants.{Read, Write, FrontRead, Digest, ReadLock, Transition, PowerUp, Check}
+use Rattle.model.specs.declared.Command.TheVariants.{Read, Write, FrontRead, Digest, ReadLock, Transition, PowerUp}
 use Rattle.model.specs.Answers.{code_of, value_of}
 use Rattle.model.specs.Session.{fresh_session}
 use Rattle.model.specs.Lent.{Machine, Primitives}
@@ -52,12 +52,8 @@ module _ (size : ℕ) where
   -- "A fresh record is Off": before a power-up every other command answers 7.
   abbrev pub off : Case
   off =
-      on_blank (Read 0 ∷ Write 0 1 ∷ FrontRead 0 ∷ Digest 0 ∷ ReadLock 0 ∷ Transition 1 0 7 ∷ Check ∷ [])
-      ((0x07, 0) ∷ (0x07, 0) ∷ (0x07, 0) ∷ (0x07, 0) ∷ (0x07, 0) ∷ (0x07, 0) ∷ (0x07, 0) ∷ [])
-
-  -- Request Seven: where nothing is sensed locked a check answers 0 with value 0, after a write at an address and a read lock too.
-  abbrev pub checked : ℕ → Case
-  checked a = on_blank (PowerUp ∷ Check ∷ Write a 1 ∷ ReadLock 0 ∷ Check ∷ []) ((0x00, 0) ∷ (0x00, 0) ∷ (0x00, 0) ∷ (0x00, 0) ∷ (0x00, 0) ∷ [])
+      on_blank (Read 0 ∷ Write 0 1 ∷ FrontRead 0 ∷ Digest 0 ∷ ReadLock 0 ∷ Transition 1 0 7 ∷ [])
+      ((0x07, 0) ∷ (0x07, 0) ∷ (0x07, 0) ∷ (0x07, 0) ∷ (0x07, 0) ∷ (0x07, 0) ∷ [])
 
   -- Request Two, both sides of 0x0F8 and 0x0FC, in the partition of 0x100 bytes that starts at s.
   module _ (s : ℕ) where

@@ -3,11 +3,10 @@ use Rattle.std.specs.Prelude.{ℕ, List, [], ◌∷◌, ◌++◌, replicate}
 use Rattle.std.proofs.Math.Option.{none, some}
 use Rattle.partitions.specs.Map1.{map1}
 use Rattle.model.specs.declared.Command.{Command}
-use Rattle.model.specs.declared.Command.TheVariants.{Read, Write, FrontRead, Digest, ReadLock, Transition, PowerUp, Check}
+use Rattle.model.specs.declared.Command.TheVariants.{Read, Write, FrontRead, Digest, ReadLock, Transition, PowerUp}
 use Rattle.constants.specs.Constants.{digest_start, digest_final}
 use Rattle.model.specs.Lent.{Machine, Primitives}
-use Rattle.model.specs.CaseTables.{Case, as_is, lowest_bit_changed, blank_array, on_blank, off, checked, both_sides, second_burn, which_word, constants}
-use Rattle.model.specs.CaseTables.{off_chip, HoldOn}
+use Rattle.model.specs.CaseTables.{Case, as_is, lowest_bit_changed, blank_array, on_blank, off, both_sides, second_burn, which_word, constants, off_chip, HoldOn}
 
 -- 448 words
 abbrev pub blank : List ℕ
@@ -42,8 +41,8 @@ paper =
     -- 8. Partition 0 read-locked: read 0x000 is 5, 0x0F8 is 0.
     ∷ case (PowerUp ∷ ReadLock 0 ∷ Read 0x000 ∷ Read 0x0F8 ∷ []) ((0x00, 0) ∷ (0x00, 0) ∷ (0x05, 0) ∷ (0x00, 0) ∷ [])
     -- 9. RAW to state 1, right token: 0; any next command but power-up: 7; power-up: 257.
-    ∷ case (PowerUp ∷ Transition 1 0 7 ∷ Read 0 ∷ Write 0 0 ∷ FrontRead 0x200 ∷ Digest 0x200 ∷ ReadLock 0 ∷ Transition 1 0 7 ∷ Check ∷ PowerUp ∷ [])
-    ((0x00, 0) ∷ (0x00, 0) ∷ (0x07, 0) ∷ (0x07, 0) ∷ (0x07, 0) ∷ (0x07, 0) ∷ (0x07, 0) ∷ (0x07, 0) ∷ (0x07, 0) ∷ (0x00, 257) ∷ [])
+    ∷ case (PowerUp ∷ Transition 1 0 7 ∷ Read 0 ∷ Write 0 0 ∷ FrontRead 0x200 ∷ Digest 0x200 ∷ ReadLock 0 ∷ Transition 1 0 7 ∷ PowerUp ∷ [])
+    ((0x00, 0) ∷ (0x00, 0) ∷ (0x07, 0) ∷ (0x07, 0) ∷ (0x07, 0) ∷ (0x07, 0) ∷ (0x07, 0) ∷ (0x07, 0) ∷ (0x00, 257) ∷ [])
     -- 10. Wrong token: 0x23; power-up 256.
     ∷ record {
       cells = blank_array 448;
@@ -78,7 +77,7 @@ locked_first =
 
 unfoldable pub table : ℕ → List Case
 table digest =
-    paper ++ both_sides 448 0x000 ++ (hardware digest ∷ []) ++ second_burn 448 0x000 ++ which_word 448 0x250 ++ (locked_first ∷ off 448 ∷ checked 448 0x200 ∷ [])
+    paper ++ both_sides 448 0x000 ++ (hardware digest ∷ []) ++ second_burn 448 0x000 ++ which_word 448 0x250 ++ (locked_first ∷ off 448 ∷ [])
 
 -- the rows of requests Two, Three and Five in other partitions: OWNER_SW_CFG, HW_CFG, and the last granule of SECRET2
 unfoldable pub table_elsewhere : List Case

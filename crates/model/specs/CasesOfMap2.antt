@@ -2,11 +2,11 @@
 use Rattle.std.specs.Prelude.{ℕ, List, [], ◌∷◌, ◌++◌, replicate}
 use Rattle.std.proofs.Math.Option.{none, some}
 use Rattle.partitions.specs.Map2.{map2}
-use Rattle.model.specs.declared.Command.TheVariants.{Read, Write, FrontRead, Digest, ReadLock, Transition, PowerUp, Check}
+use Rattle.model.specs.declared.Command.TheVariants.{Read, Write, FrontRead, Digest, ReadLock, Transition, PowerUp}
 use Rattle.constants.specs.Constants.{digest_start, digest_final}
 use Rattle.model.specs.Lent.{Primitives}
-use Rattle.model.specs.CaseTables.{Case, as_is, lowest_bit_changed, words, number, blank_array, array_with, on_blank, off, checked, both_sides, second_burn}
-use Rattle.model.specs.CaseTables.{which_word, constants, HoldOn}
+use Rattle.model.specs.CaseTables.{Case, as_is, lowest_bit_changed, words, number, blank_array, array_with, on_blank, off, both_sides, second_burn, which_word}
+use Rattle.model.specs.CaseTables.{constants, HoldOn}
 
 -- count 24, state RAW: from word 696 (0x570) on, 24 counter words that are all D and 20 state words that are zero
 abbrev pub spent_of_map2 : List ℕ
@@ -32,8 +32,8 @@ paper_on_map2 =
     -- 8. Partition 0 read-locked: read 0x000 is 5, 0x038 is 0.
     ∷ on_blank 740 (PowerUp ∷ ReadLock 0 ∷ Read 0x000 ∷ Read 0x038 ∷ []) ((0x00, 0) ∷ (0x00, 0) ∷ (0x05, 0) ∷ (0x00, 0) ∷ [])
     -- 9. RAW to state 1, right token: 0; any next command but power-up: 7; power-up: 257.
-    ∷ on_blank 740 (PowerUp ∷ Transition 1 0 7 ∷ Read 0 ∷ Write 0 0 ∷ FrontRead 0x440 ∷ Digest 0x440 ∷ ReadLock 0 ∷ Transition 1 0 7 ∷ Check ∷ PowerUp ∷ [])
-    ((0x00, 0) ∷ (0x00, 0) ∷ (0x07, 0) ∷ (0x07, 0) ∷ (0x07, 0) ∷ (0x07, 0) ∷ (0x07, 0) ∷ (0x07, 0) ∷ (0x07, 0) ∷ (0x00, 257) ∷ [])
+    ∷ on_blank 740 (PowerUp ∷ Transition 1 0 7 ∷ Read 0 ∷ Write 0 0 ∷ FrontRead 0x440 ∷ Digest 0x440 ∷ ReadLock 0 ∷ Transition 1 0 7 ∷ PowerUp ∷ [])
+    ((0x00, 0) ∷ (0x00, 0) ∷ (0x07, 0) ∷ (0x07, 0) ∷ (0x07, 0) ∷ (0x07, 0) ∷ (0x07, 0) ∷ (0x07, 0) ∷ (0x00, 257) ∷ [])
     -- 10. Wrong token: 0x23; power-up 256.
     ∷ record {
       cells = blank_array 740;
@@ -141,7 +141,7 @@ hw_cfg1_digest digest =
 unfoldable pub table_of_map2 : ℕ → List Case
 table_of_map2 digest =
     paper_on_map2 ++ auth_state_rows ++ read_lock_rows ++ front_read_rows ++ edge_rows ++ both_sides 740 0x140 ++ second_burn 740 0x440 ++ which_word 740 0x560
-    ++ (hw_cfg1_digest digest ∷ off 740 ∷ checked 740 0x440 ∷ [])
+    ++ (hw_cfg1_digest digest ∷ off 740 ∷ [])
 
 module _ (prims : Primitives) (keys : ℕ → ℕ) where
   abbrev pub HoldOnMap2 : List Case → Type 0

@@ -17,5 +17,4 @@ pub mod PowerUps
 pub mod FailedPowerUps
 pub mod ReadLocks
 pub mod Sensing
-pub mod Checks
 pub mod All

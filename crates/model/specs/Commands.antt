@@ -1,10 +1,8 @@
 -- The commands but power-up, each in the paper's order of refusals, over any primitives and map. What each may do is in the sentence above it. Addresses and
 -- numbers there are those of Map 1: "0x10, 0x06 and the address limit read from the map in use; where 01 or Two numbers or counts partitions, their kind
 -- decides." (request Six)
-use Rattle.std.specs.Prelude.{ℕ, suc, ◌+◌, ◌*◌, ◌-◌, ◌/◌, ◌^◌, Bool, not, ◌&&◌, ◌||◌, List, eqb, leb, ltb, length, get_or}
-use Rattle.std.proofs.Math.Option.{Option, none, some}
+use Rattle.std.specs.Prelude.{ℕ, suc, ◌+◌, ◌*◌, ◌-◌, ◌/◌, ◌^◌, Bool, not, ◌&&◌, ◌||◌, List, eqb, leb, ltb}
 use Rattle.basics.specs.Choice.{if◌then◌else◌}
-use Rattle.basics.specs.Range.{listed, first_not}
 use Rattle.words.specs.declared.Rule.{Rule}
 use Rattle.words.specs.declared.Rule.TheVariants.{KeepBits, BlankOnly}
 use Rattle.words.specs.Words.{number_of, words_of, part_at}
@@ -16,17 +14,17 @@ use Rattle.life_cycle.specs.declared.Token.{Token}
 use Rattle.life_cycle.specs.declared.Token.TheVariants.{Nothing, RawUnlock, TestUnlock, TestExit, Rma}
 use Rattle.life_cycle.specs.declared.Entry.{Entry}
 use Rattle.life_cycle.specs.declared.Entry.TheVariants.{Allowed, Forbidden}
-use Rattle.life_cycle.specs.Words.{counter_words, state_words, same_words}
+use Rattle.life_cycle.specs.Words.{counter_words, state_words}
 use Rattle.life_cycle.specs.Transitions.{table_entry}
 use Rattle.model.specs.declared.Session.{Session}
 use Rattle.model.specs.declared.Answer.{Answer}
 use Rattle.model.specs.declared.Answer.TheVariants.{Done, Denied, NotReady, UnknownTarget, StrokesUsed, NotInTable, TokenNotLocked, TokenDiffers}
 use Rattle.model.specs.declared.Command.{Command}
-use Rattle.model.specs.declared.Command.TheVariants.{Read, Write, FrontRead, Digest, ReadLock, Transition, PowerUp, Check}
-use Rattle.model.specs.Session.{is_ready, sensed_at, sensed_locked, read_locked}
+use Rattle.model.specs.declared.Command.TheVariants.{Read, Write, FrontRead, Digest, ReadLock, Transition, PowerUp}
+use Rattle.model.specs.Session.{is_ready, sensed_locked, read_locked}
 use Rattle.constants.specs.Constants.{key_of, digest_start, digest_final, raw_unlock_hash}
 use Rattle.model.specs.Lent.{Lent, Machine, Primitives}
-use Rattle.model.specs.Acts.{no_effect, lock, to_inert, to_dead, Act, say, program, compare, inspect, refuse}
+use Rattle.model.specs.Acts.{no_effect, lock, to_inert, to_dead, Act, say, program, compare, refuse}
 
 -- "A direct access write, or a digest command, is now refused with 4 if any word of its target granule is nonzero, whatever the value. LIFE_CYCLE
 -- words keep the old rule." (request Three) "AUTH_STATE data, like LIFE_CYCLE, keeps the old rule" (request Six).
@@ -150,40 +148,6 @@ module _ (prims : Primitives) (map : Map) (s : Session) where
   authorization Forbidden given = refused NotInTable
   authorization (Allowed token) given = token_authorization token given
 
--- ---- what a check inspects (request Seven)
-
--- "Then LIFE_CYCLE's copy equals its cells.": its 24 counter words and 20 state words
-unfoldable pub life_cycle_agrees : Map → Lent → Bool
-life_cycle_agrees map l = same_words (part_at l.copy (counter_at map) 44) (part_at l.cells (counter_at map) 44)
-
-module _ (prims : Primitives) where
-  -- word j of a partition's data as it would be stored, from the sensed copy: "rescrambled where secret", by granules
-  unfoldable pub rescrambled_word : List ℕ → Partition → List ℕ → ℕ → ℕ
-  rescrambled_word constants p copy j =
-      let a = 2 * j in
-      if (rights_of p.kind).scrambled then get_or (stored_form prims constants p a (granule p copy a)) (j - first_word p a) 0 else get_or copy j 0
-
-  -- "the digest recomputed from the sensed copy"
-  unfoldable pub recomputed_digest : List ℕ → Partition → List ℕ → ℕ
-  recomputed_digest constants p copy =
-      prims.digest (digest_start constants) (digest_final constants)
-      (listed (rescrambled_word constants p copy) (p.start / 2) (p.digest / 2 - p.start / 2))
-
-  -- "For each buffered partition sensed locked ..: the digest recomputed .. equals the sensed digest; the stored digest equals it too." (the buffered
-  -- partitions with a digest are those with a hardware digest)
-  unfoldable pub digests_agree : Session → Lent → ℕ → Partition → Bool
-  digests_agree s l number p =
-      not ((rights_of p.kind).hardware && sensed_locked s number)
-      || eqb (recomputed_digest l.constants p l.copy) (sensed_at s number) && eqb (stored_digest p l.cells) (sensed_at s number)
-
-  -- "The first failure", by the partition: those of the digests "in order", then LIFE_CYCLE's
-  unfoldable pub first_fault : Map → Session → Lent → Option ℕ
-  first_fault map s l =
-      elim (first_not (λ number. digests_agree s l number (partition map number)) 0 (length map)) [
-        | some number ↦ some number
-        | none ↦ if life_cycle_agrees map l then none else some (number_of_kind map kind.LifeCycle)
-      ]
-
 module _ (prims : Primitives) (map : Map) (m : Machine) where
   abbrev session : Session
   session = m.session
@@ -241,10 +205,6 @@ module _ (prims : Primitives) (map : Map) (m : Machine) where
       else program life_cycle_rule (counter_at map) (counter_words constants (suc session.count)) to_dead
       (authorized_act (authorization prims map session (table_entry session.state target) given) target)
 
-  -- "The first failure answers 6 with the partition ..; success changes nothing."
-  unfoldable pub check_act : Act
-  check_act = inspect (first_fault prims map session) (say (Done 0) no_effect)
-
   -- Power-up is no act (`obey`, in Step.antt): its clause is never asked.
   unfoldable pub command_act : Command → Act
   command_act (Read a) = read_act a
@@ -254,13 +214,12 @@ module _ (prims : Primitives) (map : Map) (m : Machine) where
   command_act (ReadLock number) = read_lock_act number
   command_act (Transition target high low) = transition_act target (high * 2 ^ 64 + low)
   command_act PowerUp = refuse NotReady
-  command_act Check = check_act
 
   -- "phase is not Ready (except at power-up)"
   unfoldable pub ready_act : Command → Act
   ready_act x = if not (is_ready session.phase) then refuse NotReady else command_act x
 
--- The class of a command, for rules that tell no more apart: power-up, which is no act; transitions; and the others, which leave the phase unless they fail.
+-- The class of a command, for rules that tell no more apart: power-up, which is no act; transitions; and the others, which leave the phase.
 pub data Class : Type 0 where
   sensing : Class
   transiting : Class
@@ -274,4 +233,3 @@ class_of (Digest a) = access
 class_of (ReadLock number) = access
 class_of (Transition target high low) = transiting
 class_of PowerUp = sensing
-class_of Check = access

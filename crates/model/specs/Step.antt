@@ -9,7 +9,7 @@ use Rattle.model.specs.declared.Answer.{Answer}
 use Rattle.model.specs.declared.Answer.TheVariants.{WrongLength, InvalidConstants}
 use Rattle.model.specs.declared.Command.{Command}
 use Rattle.model.specs.Lent.{Machine, Primitives, with_cells, with_copy, sizes_of, right_sizes}
-use Rattle.model.specs.Acts.{Performed, perform, effect_on, copy_after}
+use Rattle.model.specs.Acts.{Performed, perform, effect_on}
 use Rattle.model.specs.Commands.{ready_act, class_of, sensing, transiting, access}
 use Rattle.model.specs.PowerUp.{verdict_of, power_up_end, powered_copy, powered_session, powered_answer}
 
@@ -29,13 +29,13 @@ pub record Step : Type 0 where
 unfoldable pub unchanged : Answer → Machine → Step
 unchanged answer m = record { result = record { machine = m; answer = answer }; compared = []; verdicts = [] }
 
--- the cells are what the act left, copy and record are as its effect leaves them
+-- the cells are what the act left, the copy stays, and the record is as the act's effect leaves it
 unfoldable pub performed : Performed → Machine → Step
 performed r m =
     record {
       result = record {
         machine = record {
-          lent = with_copy (copy_after r.effect m.lent.copy) (with_cells r.cells m.lent);
+          lent = with_cells r.cells m.lent;
           session = effect_on r.effect m.session;
         };
         answer = r.answer;

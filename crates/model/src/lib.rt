@@ -68,7 +68,6 @@ pub enum Command {
     ReadLock(u8),
     Transition(u8, u64, u64),
     PowerUp,
-    Check,
 }
 
 // What a command gives back beside what is lent.

@@ -5,10 +5,10 @@ use mathlib.Core.List.{List, [], ◌∷◌, ◌++◌}
 use Prim.Native.Nat.{ℕ, ◌+◌, ◌^◌, ◌<◌}
 use Rattle.words.proofs.Words.{number-block}
 use Rattle.partitions.specs.Map1.{map1}
-use Rattle.model.specs.declared.Command.TheVariants.{Read, Write, FrontRead, Digest, ReadLock, Transition, PowerUp, Check}
+use Rattle.model.specs.declared.Command.TheVariants.{Read, Write, FrontRead, Digest, ReadLock, Transition, PowerUp}
 use Rattle.model.specs.Lent.{Primitives}
 use Rattle.model.specs.Step.{obey}
-use Rattle.model.specs.CaseTables.{Case, as_is, lowest_bit_changed, off, checked, both_sides, second_burn, which_word}
+use Rattle.model.specs.CaseTables.{Case, as_is, lowest_bit_changed, off, both_sides, second_burn, which_word}
 use Rattle.model.specs.Cases.{paper, hardware, locked_first, table, Hold, blank_digest}
 use Rattle.model_examples.proofs.CaseTables.{◌&◌, same, right-same, wrong-differs, Part, both, held, powered, unlocking, unlocked}
 use Rattle.model.proofs.Everything.{everything}
@@ -35,7 +35,7 @@ module _ (prims : Primitives) (keys : ℕ → ℕ) where
             & (
               refl,
               ap (unlocked prims keys map1 448
-                  (Read 0 ∷ Write 0 0 ∷ FrontRead 0x200 ∷ Digest 0x200 ∷ ReadLock 0 ∷ Transition 1 0 7 ∷ Check ∷ PowerUp ∷ [])) right,
+                  (Read 0 ∷ Write 0 0 ∷ FrontRead 0x200 ∷ Digest 0x200 ∷ ReadLock 0 ∷ Transition 1 0 7 ∷ PowerUp ∷ [])) right,
               tt,
             )
             & (refl, ap (unlocked prims keys map1 448 (PowerUp ∷ [])) wrong, tt) & (refl, refl, tt) & (refl, refl, refl)
@@ -66,9 +66,9 @@ module _ (prims : Primitives) (keys : ℕ → ℕ) where
   unfolding everything
   first-named = record { rows = (refl, refl, refl) & (refl, refl, refl) & (refl, refl, refl) & (refl, refl, refl) & tt }
 
-  locked-first : Part prims keys map1 448 (locked_first ∷ off 448 ∷ checked 448 0x200 ∷ [])
+  locked-first : Part prims keys map1 448 (locked_first ∷ off 448 ∷ [])
   unfolding everything
-  locked-first = record { rows = (refl, refl, tt) & (refl, refl, tt) & (refl, refl, tt) & tt }
+  locked-first = record { rows = (refl, refl, tt) & (refl, refl, tt) & tt }
 
   -- the digest is a number of 64 bits, and the hash of the token one of 128
   pub cases : blank_digest prims keys < 2 ^ 64 → prims.hash 7 < 2 ^ 128 → Hold prims keys (table (blank_digest prims keys))

@@ -5,10 +5,10 @@ use mathlib.Core.List.{List, [], ◌∷◌, ◌++◌}
 use Prim.Native.Nat.{ℕ, ◌+◌, ◌^◌, ◌<◌}
 use Rattle.words.proofs.Words.{number-block}
 use Rattle.partitions.specs.Map2.{map2}
-use Rattle.model.specs.declared.Command.TheVariants.{Read, Write, FrontRead, Digest, ReadLock, Transition, PowerUp, Check}
+use Rattle.model.specs.declared.Command.TheVariants.{Read, Write, FrontRead, Digest, ReadLock, Transition, PowerUp}
 use Rattle.model.specs.Lent.{Primitives}
 use Rattle.model.specs.Step.{obey}
-use Rattle.model.specs.CaseTables.{Case, as_is, lowest_bit_changed, off, checked, both_sides, second_burn, which_word}
+use Rattle.model.specs.CaseTables.{Case, as_is, lowest_bit_changed, off, both_sides, second_burn, which_word}
 use Rattle.model.specs.CasesOfMap2.{paper_on_map2, auth_state_rows, read_lock_rows, front_read_rows, edge_rows, hw_cfg1_digest, table_of_map2, HoldOnMap2, blank_hw_cfg1_digest}
 use Rattle.model_examples.proofs.CaseTables.{◌&◌, same, right-same, wrong-differs, Part, both, held, powered, unlocking, unlocked}
 use Rattle.model.proofs.Everything.{everything}
@@ -35,7 +35,7 @@ module _ (prims : Primitives) (keys : ℕ → ℕ) where
             & (
               refl,
               ap (unlocked prims keys map2 740
-                  (Read 0 ∷ Write 0 0 ∷ FrontRead 0x440 ∷ Digest 0x440 ∷ ReadLock 0 ∷ Transition 1 0 7 ∷ Check ∷ PowerUp ∷ [])) right,
+                  (Read 0 ∷ Write 0 0 ∷ FrontRead 0x440 ∷ Digest 0x440 ∷ ReadLock 0 ∷ Transition 1 0 7 ∷ PowerUp ∷ [])) right,
               tt,
             )
             & (refl, ap (unlocked prims keys map2 740 (PowerUp ∷ [])) wrong, tt) & (refl, refl, tt) & (refl, refl, refl)
@@ -76,16 +76,11 @@ module _ (prims : Primitives) (keys : ℕ → ℕ) where
   last-named = record { rows = (refl, refl, refl) & (refl, refl, refl) & (refl, refl, refl) & (refl, refl, refl) & tt }
 
   -- the words of a number of 64 bits stand for it
-  hw-cfg1-digest : blank_hw_cfg1_digest prims keys < 2 ^ 64
-      → Part prims keys map2 740 (hw_cfg1_digest (blank_hw_cfg1_digest prims keys) ∷ off 740 ∷ checked 740 0x440 ∷ [])
+  hw-cfg1-digest : blank_hw_cfg1_digest prims keys < 2 ^ 64 → Part prims keys map2 740 (hw_cfg1_digest (blank_hw_cfg1_digest prims keys) ∷ off 740 ∷ [])
   unfolding everything map2
   hw-cfg1-digest h =
       let d = blank_hw_cfg1_digest prims keys in
-      record {
-        rows =
-            (refl, ap (λ (x : ℕ). (0x00, 0) ∷ (0x00, d) ∷ (0x00, 0) ∷ (0x00, x) ∷ (0x00, x) ∷ []) (number-block d h), tt) & (refl, refl, tt)
-            & (refl, refl, tt) & tt;
-      }
+      record { rows = (refl, ap (λ (x : ℕ). (0x00, 0) ∷ (0x00, d) ∷ (0x00, 0) ∷ (0x00, x) ∷ (0x00, x) ∷ []) (number-block d h), tt) & (refl, refl, tt) & tt }
 
   pub cases-of-map2 : blank_hw_cfg1_digest prims keys < 2 ^ 64 → prims.hash 7 < 2 ^ 128
       → HoldOnMap2 prims keys (table_of_map2 (blank_hw_cfg1_digest prims keys))

@@ -2,7 +2,7 @@
 use mathlib.Core.Path.{◌≡◌, refl, sym, subst}
 use mathlib.Core.Bool.{true, false, Bool, ◌&&◌}
 use mathlib.Core.List.{List, [], ◌∷◌, ◌++◌}
-use Prim.Native.Nat.{ℕ, zero, suc, ◌+◌, ◌≤◌, ◌<◌}
+use Prim.Native.Nat.{ℕ, zero, suc, ◌≤◌, ◌<◌}
 use native.Mathlib.Omega.{arith}
 use lib.Bits.{xor_lt}
 use lib.Dec.{eqb, ltb, lit<}
@@ -18,7 +18,7 @@ use Rattle.partitions.proofs.Maps.{map1-fit}
 use Rattle.model.specs.declared.Answer.TheVariants.{Done, NotBlank, Denied}
 use Rattle.model.specs.declared.Command.{Command}
 use Rattle.model.specs.declared.Command.TheVariants.{Read, Write, FrontRead, Digest, ReadLock, Transition, PowerUp}
-use Rattle.model.specs.Lent.{Machine, Primitives}
+use Rattle.model.specs.Lent.{Machine}
 use Rattle.life_cycle.specs.declared.LifeCycle.TheVariants.{Valid}
 use Rattle.words.specs.declared.Rule.TheVariants.{KeepBits}
 use Rattle.model.specs.Commands.{direct_rule, granule, stored_digest}
@@ -33,7 +33,6 @@ use Rattle.model.specs.Session.{read_locked}
 use Rattle.model.specs.Claims.Transitions.{Asked, stays, moves}
 use Rattle.model.specs.Claims.Burns.{writing, digesting, Named}
 use Rattle.model.specs.Claims.Digests.{Puts, writes, Source, put}
-use Rattle.model.specs.Claims.Sensing.{NoSix}
 use Rattle.model.specs.Claims.All.{Claims}
 use Rattle.model.proofs.Everything.{everything}
 use Rattle.model.proofs.ToyChip.{toy_with, toy, off, ready, tested}
@@ -53,15 +52,6 @@ toy-digest = record { fits = λ start final words s f w. lit< tt }
 
 abbrev pub toy-claims : Claims toy map1
 toy-claims = claims toy toy-cipher toy-digest map1 map1-fit
-
--- with a digest that is 1 more than the first word
-abbrev pub summing : Primitives
-summing = toy_with (λ words. 1 + get_or words 0 0)
-
-pub summing-claims : Claims summing map1
-summing-claims =
-    claims summing (record { fits = toy-cipher.fits; back = toy-cipher.back; plain_fits = toy-cipher.plain_fits; forth = toy-cipher.forth })
-    (record { fits = λ start final words s f w. omega (arith, w 0) }) map1 map1-fit
 
 -- words of 16 bits, by a test that is computed
 abbrev pub small : List ℕ → Bool
@@ -373,13 +363,9 @@ quietly = Write 0x200 0x99 ∷ Digest 0x200 ∷ ReadLock 0 ∷ []
 
 copy-left : (after toy map1 quietly wrote).lent.copy ≡ wrote.lent.copy
 unfolding quietly
-copy-left = (toy-claims.sensing.unsensed wrote quietly (tt, (tt, (tt, tt)))).1 none-fails
-  where
-    none-fails : NoSix toy map1 quietly wrote
-    none-fails = unfold everything NoSix quietly wrote in ((λ e. omega (arith, e)), ((λ e. omega (arith, e)), ((λ e. omega (arith, e)), tt)))
+copy-left = (toy-claims.sensing.unsensed wrote quietly (tt, (tt, (tt, tt)))).0
 
 -- ---- a refusal: a denied write leaves the machine
 
 refused-whole : machine_after toy map1 (Write 0x248 1) wrote ≡ wrote
-refused-whole =
-    toy-claims.refusals.commands wrote (Write 0x248 1) tt (unfold everything wrote in (λ e. omega arith)) (unfold everything wrote in (λ e. omega arith))
+refused-whole = toy-claims.refusals.commands wrote (Write 0x248 1) tt (unfold everything wrote in (λ e. omega arith))

@@ -1,17 +1,18 @@
 -- Premises of the claims on transitions, digests, read locks, failed power-ups and lists are met: computed runs, and why the premises stand.
 use mathlib.Core.Path.{◌≡◌, refl}
 use mathlib.Core.List.{[], ◌∷◌, ◌++◌}
-use Prim.Native.Nat.{◌<◌}
+use Prim.Native.Nat.{◌+◌, ◌<◌}
 use native.Mathlib.Omega.{arith}
 use lib.Dec.{lit<}
-use lib.ListN.{set}
+use lib.ListN.{get_or, set}
 use Rattle.words.specs.declared.Rule.TheVariants.{KeepBits}
 use Rattle.partitions.specs.Map1.{map1}
+use Rattle.partitions.proofs.Maps.{map1-fit}
 use Rattle.model.specs.declared.Phase.TheVariants.{Ready}
 use Rattle.model.specs.declared.Answer.TheVariants.{Done, Denied, DigestFailed}
 use Rattle.model.specs.declared.Command.TheVariants.{Read, Write, Digest, ReadLock, Transition, PowerUp}
 use Rattle.model.specs.Answers.{code_of}
-use Rattle.model.specs.Lent.{Machine}
+use Rattle.model.specs.Lent.{Machine, Primitives}
 use Rattle.model.specs.Step.{after, answers, machine_after, answer_to}
 use Rattle.model.specs.Cases.{blank}
 use Rattle.model.specs.Session.{no_digests, no_locks}
@@ -22,9 +23,11 @@ use Rattle.model.specs.Claims.Transitions.{stroke_only, stroke_words, move_words
 use Rattle.model.specs.Claims.Digests.{DataNotWritten, Digestible}
 use Rattle.model.specs.Claims.FailedPowerUps.{WrittenAfterDigest, Scrapped}
 use Rattle.model.specs.Claims.Sensing.{Since}
+use Rattle.model.specs.Claims.All.{Claims}
 use Rattle.model.proofs.Everything.{everything}
 use Rattle.model.proofs.ToyChip.{toy_with, toy, off, ready}
-use Rattle.model_examples.proofs.Examples.{toy-claims, summing, summing-claims, right}
+use Rattle.model.proofs.Theorems.{claims}
+use Rattle.model_examples.proofs.Examples.{toy-cipher, toy-claims, right}
 
 -- the blank chip after a power-up
 up : Machine
@@ -87,11 +90,20 @@ elsewhere = ((λ n d z. omega (arith, n)), (tt, tt))
 
 -- ---- power-ups that fail
 
--- HW_CFG is digested, written, and fails its check
+-- a chip whose digest is its first word and one: HW_CFG is digested, written, and fails its check
+summing : Primitives
+summing = toy_with (λ words. get_or words 0 0 + 1)
+
+summing-claims : Claims summing map1
+unfolding summing
+summing-claims =
+    claims summing (record { fits = toy-cipher.fits; back = toy-cipher.back; plain_fits = toy-cipher.plain_fits; forth = toy-cipher.forth })
+    (record { fits = λ start final words s f w. omega (arith, w 0) }) map1 map1-fit
+
 written_after : WrittenAfterDigest summing map1 (machine_after summing map1 PowerUp (off blank)) (Digest 0x200 ∷ Write 0x200 5 ∷ []) 2
 written_after =
-    summing-claims.failed_power_ups.sixes (off blank) (right blank refl) (unfold everything in refl) (Digest 0x200 ∷ Write 0x200 5 ∷ []) 2
-    (unfold everything in (refl, refl))
+    summing-claims.failed_power_ups.sixes (off blank) (right blank refl) (unfold everything summing in refl) (Digest 0x200 ∷ Write 0x200 5 ∷ []) 2
+    (unfold everything summing in (refl, refl))
 
 -- SCRAP after one stroke
 scrapped : Scrapped toy map1 (machine_after toy map1 PowerUp (off blank)) (Transition 20 0 0 ∷ [])
@@ -133,13 +145,10 @@ read-left-out : after toy map1 (PowerUp ∷ Read 0 ∷ Write 0 5 ∷ []) (off bl
 read-left-out = (toy-claims.refusals.left_out (off blank) (PowerUp ∷ []) (Write 0 5 ∷ []) (Read 0) reads).0
 
 denied-left-out : after toy map1 (PowerUp ∷ Write 0x248 1 ∷ Write 0 5 ∷ []) (off blank) ≡ after toy map1 (PowerUp ∷ Write 0 5 ∷ []) (off blank)
-denied-left-out = (toy-claims.refusals.left_out (off blank) (PowerUp ∷ []) (Write 0 5 ∷ []) (Write 0x248 1) (refused tt not_done not-failed)).0
+denied-left-out = (toy-claims.refusals.left_out (off blank) (PowerUp ∷ []) (Write 0 5 ∷ []) (Write 0x248 1) (refused tt denied)).0
   where
-    not_done : code_of (answer_to toy map1 (Write 0x248 1) (after toy map1 (PowerUp ∷ []) (off blank))) ≡ 0x00 → ⊥
-    not_done = unfold everything in (λ e. omega (arith, e))
-
-    not-failed : code_of (answer_to toy map1 (Write 0x248 1) (after toy map1 (PowerUp ∷ []) (off blank))) ≡ 0x06 → ⊥
-    not-failed = unfold everything in (λ e. omega (arith, e))
+    denied : code_of (answer_to toy map1 (Write 0x248 1) (after toy map1 (PowerUp ∷ []) (off blank))) ≡ 0x00 → ⊥
+    denied = unfold everything in (λ e. omega (arith, e))
 
 -- ---- sensing: a second power-up finds what the first left
 

@@ -12,19 +12,19 @@ use Rattle.model.proofs.Everything.{everything}
 use Rattle.model.proofs.ToyChip.{toy}
 
 -- a number of 16 bits as four words; the same once more and more often
-abbrev pub block : ℕ → List ℕ
+abbrev block : ℕ → List ℕ
 block x = x ∷ 0 ∷ 0 ∷ 0 ∷ []
 
-unfoldable pub blocks : ℕ → ℕ → List ℕ
+unfoldable blocks : ℕ → ℕ → List ℕ
 blocks zero x = []
 blocks (suc n) x = block x ++ blocks n x
 
 -- so many data words that begin with a mark, and a digest; a digest of the toy chip's own is 1
-abbrev pub marked : ℕ → ℕ → List ℕ
+abbrev marked : ℕ → ℕ → List ℕ
 marked n digest = 7 ∷ replicate (n - 1) 0 ++ block digest
 
 -- count 1, TEST_UNLOCKED0
-abbrev pub life : List ℕ
+abbrev life : List ℕ
 life = (3 ∷ replicate 23 1) ++ (3 ∷ replicate 19 1)
 
 -- the data of a secret of so many blocks, unscrambled: the mark's lowest bit flipped, and a blank block as 1; then the digest

@@ -6,6 +6,5 @@ pub mod CasesOfMap2
 pub mod Examples
 pub mod ExamplesOfMap2
 pub mod ExamplesOfSensing
-pub mod ExamplesOfChecks
 pub mod ExamplesOfClaims
 pub mod ExamplesOfNumbers

@@ -6,13 +6,12 @@ use Prim.Native.Nat.{ℕ, zero, suc, ◌+◌, ◌*◌, ◌/◌, ◌%◌, ◌≤�
 use native.Mathlib.Omega.{arith}
 use lib.Dec.{eqb, leb, ltb}
 use lib.ListN.{length, get_or-eq_default}
-use borrow.Author.Tests.{eqb-true, eq-eqb, leb-true, ltb-true, ltb-false, lt-ltb, le-ltb, le-leb, not-true}
+use borrow.Author.Tests.{eqb-true, leb-true, ltb-true, ltb-false, lt-ltb, le-ltb, le-leb, not-true}
 use Rattle.basics.specs.Choice.{if◌then◌else◌}
-use Rattle.basics.proofs.Choice.{by_cases, true-not-false, not-passed, and_left, and_right, and_both, and-three, if-true, if-false, if-both}
+use Rattle.basics.proofs.Choice.{by_cases, true-not-false, not-passed, and_left, and_right, and_both, and-three, if-true, if-false}
 use Rattle.partitions.specs.declared.Partition.{Partition}
-use Rattle.partitions.specs.declared.Kind.{Kind}
 use Rattle.partitions.specs.declared.Kind.TheVariants.{Secret0, Secret1, LifeCycle}
-use Rattle.partitions.specs.Map.{Map, rights_of, holds, number_at, nowhere, partition, partition_at, limit, kind_number, number_of_kind}
+use Rattle.partitions.specs.Map.{Map, rights_of, holds, number_at, nowhere, partition, partition_at, limit, number_of_kind}
 use Rattle.partitions.specs.Fitness.{placed, digested, life_cycle_words, fit_from, once, fit}
 use Rattle.partitions.proofs.KindRights.{life-cycle-direct}
 
@@ -222,15 +221,6 @@ partition-at map a e = ap (partition map) e
 pub partition-past : (map : Map) {n : ℕ} → length map ≤ n → partition map n ≡ nowhere
 unfolding partition
 partition-past map h = get_or-eq_default map nowhere h
-
--- no partition of a kind stands before the first of it
-pub kind-from : (map : Map) (k : Kind) (n : ℕ) → n < length map → (partition map n).kind ≡ k → number_of_kind map k ≤ n
-unfolding number_of_kind partition
-kind-from [] k n l e = absurd (omega arith)
-kind-from (p ∷ ps) k zero l e = rw (if-true 0 (suc (number_of_kind ps k)) (eq-eqb _ _ (ap kind_number e))) (omega arith)
-kind-from (p ∷ ps) k (suc n) l e =
-    let r = kind-from ps k n (omega arith) e in
-    if-both (λ (x : ℕ). x ≤ suc n) (eqb (kind_number p.kind) (kind_number k)) _ _ (λ t. omega arith) (λ t. omega (arith, r))
 
 -- direct access reaches partitions of the map alone
 pub direct-known : (map : Map) (n : ℕ) → (rights_of (partition map n).kind).direct ≡ true → n < length map

@@ -2,14 +2,25 @@
 use mathlib.Core.Path.{◌≡◌}
 use mathlib.Core.Bool.{true, false}
 use mathlib.Core.List.{List}
-use Prim.Native.Nat.{ℕ}
+use Prim.Native.Nat.{ℕ, ◌≤◌, ◌<◌, ◌/◌}
+use native.Mathlib.Omega.{arith}
 use lib.Dec.{eqb}
+use lib.ListN.{length}
 use borrow.Author.Tests.{ne_eqb}
 use Rattle.partitions.specs.declared.Partition.{Partition}
-use Rattle.partitions.specs.Map.{rights_of}
+use Rattle.partitions.specs.Map.{Map, rights_of, partition, limit}
+use Rattle.partitions.specs.Fitness.{fit}
+use Rattle.partitions.proofs.Map.{partition-fit, end-within}
 use Rattle.model.specs.Lent.{Primitives}
 use Rattle.model.specs.Commands.{stored_digest, computed_digest}
 use Rattle.model.specs.PowerUp.{digest_holds}
+
+-- a partition's data words lie in the array
+pub data-within : (map : Map) (fits : fit map ≡ true) {n : ℕ} → n < length map
+    → ((partition map n).start / 2 ≤ (partition map n).digest / 2) × ((partition map n).digest / 2 ≤ limit map / 2)
+data-within map fits h =
+    let f = partition-fit map fits h in
+    (omega (arith, f.data-first), omega (arith, f.digest-last, end-within map fits h))
 
 module _ (prims : Primitives) (constants cells : List ℕ) where
   pub none-due : (p : Partition) → (rights_of p.kind).hardware ≡ false → true ≡ digest_holds prims constants cells p

@@ -2,7 +2,7 @@
 use mathlib.Core.Path.{◌≡◌, refl, sym, ap, ap₂, ◌∙◌}
 use mathlib.Core.Bool.{true}
 use mathlib.Core.List.{List}
-use mathlib.Core.Option.{Option}
+use mathlib.Core.Option.{Option, none, some}
 use Prim.Native.Nat.{ℕ, ◌+◌, ◌*◌, ◌-◌, ◌/◌}
 use native.Mathlib.Omega.{arith}
 use lib.ListN.{length, take, drop}
@@ -31,10 +31,8 @@ use Rattle.model.specs.PowerUp.{powered_answer, power_up_end}
 use Rattle.model.specs.Step.{obey, power_up}
 use Rattle.chip.proofs.LifeCyclePlace.{counter-words-end, state-words-end}
 use Rattle.chip.specs.Chip.{primitives, result_of}
-use Rattle.chip.specs.declared.Verdict.TheVariants.{Passed, Failed}
-use Rattle.chip.specs.Verdicts.{verdict_in}
-use Rattle.chip.proofs.Verdicts.{passed_none, failed-some}
-use Rattle.power_up.specs.PowerUpEnd.{powered_result, dead_outcome}
+use Rattle.power_up.specs.declared.Verdict.TheVariants.{Passed, Failed}
+use Rattle.power_up.specs.PowerUpEnd.{verdict_in, powered_result, dead_outcome}
 
 -- ---- the life cycle words stand last
 
@@ -78,6 +76,16 @@ pub powered-up : (map : Map) (m : Machine) → (obey primitives map PowerUp m).r
 unfolding obey power_up
 powered-up map m = refl
 
+failed-by : (v : Option ℕ) (life : LifeCycle) (n : ℕ) → Failed n ≡ verdict_in v → end_of v life ≡ fails reason.DigestFailed (answer.DigestFailed n)
+unfolding end_of
+failed-by none life n e = absurd (let z : ◌≡◌ {A = ℕ} 0 1 = cc in omega arith)
+failed-by (some k) life n e = let q : n ≡ k = cc in rw q
+
+passed-by : (v : Option ℕ) (life : LifeCycle) → Passed ≡ verdict_in v → end_of v life ≡ life_cycle_end life
+unfolding end_of
+passed-by none life e = refl
+passed-by (some k) life e = absurd (let z : ◌≡◌ {A = ℕ} 0 1 = cc in omega arith)
+
 module _ (map : Map) (l : Lent) where
   abbrev life : LifeCycle
   life = life_cycle_in map l
@@ -86,12 +94,12 @@ module _ (map : Map) (l : Lent) where
   verdict = verdict_of primitives map l
 
   pub failed : (n : ℕ) → Failed n ≡ verdict_in verdict → power_up_end primitives map l ≡ fails reason.DigestFailed (answer.DigestFailed n)
-  unfolding power_up_end end_of
-  failed n e = ap (λ (v : Option ℕ). end_of v life) (failed-some verdict n e)
+  unfolding power_up_end
+  failed n e = failed-by verdict life n e
 
   pub passed : Passed ≡ verdict_in verdict → power_up_end primitives map l ≡ life_cycle_end life
-  unfolding power_up_end end_of
-  passed e = ap (λ (v : Option ℕ). end_of v life) (passed_none verdict e)
+  unfolding power_up_end
+  passed e = passed-by verdict life e
 
   pub invalid : Invalid ≡ life → life_cycle_end life ≡ fails reason.LifeCycleFailed (answer.LifeCycleFailed 0xFFFF)
   unfolding life_cycle_end

@@ -3,14 +3,14 @@
 use mathlib.Core.Path.{◌≡◌, refl, sym, ap, ◌∙◌}
 use mathlib.Core.Bool.{true, false, not, ◌&&◌}
 use mathlib.Core.List.{List, [], ◌∷◌}
-use Prim.Native.Nat.{ℕ, ◌+◌, ◌*◌, ◌-◌, ◌/◌, ◌%◌, ◌<◌}
+use Prim.Native.Nat.{ℕ, suc, ◌+◌, ◌*◌, ◌-◌, ◌/◌, ◌%◌, ◌≤◌, ◌<◌}
 use native.Mathlib.Omega.{arith}
 use lib.Dec.{leb}
-use lib.ListN.{get_or}
+use lib.ListN.{length, get_or, set}
 use borrow.Author.Tests.{leb-true, leb-false, le-leb, lt-leb}
 use Rattle.basics.specs.Range.{listed}
 use Rattle.basics.proofs.Choice.{by_cases, and-false, if-true, if-false}
-use Rattle.basics.proofs.Range.{length-listed, listed_at, listed-from, is-listed-from}
+use Rattle.basics.proofs.Range.{length-listed, listed_at, listed-from, is-listed-from, sets_more}
 use Rattle.words.specs.Words.{number_of, words_of, part_at}
 use Rattle.words.proofs.Words.{Words, length-words, words-number}
 use Rattle.words.proofs.Parts.{length_part, part-words}
@@ -18,8 +18,8 @@ use Rattle.partitions.specs.declared.Partition.{Partition}
 use Rattle.partitions.specs.Map.{Map, rights_of, partition_at, limit, in_digest, first_word, word_count}
 use Rattle.partitions.specs.Fitness.{fit}
 use Rattle.partitions.proofs.Map.{inside, only, partition-at}
+use Rattle.partitions.proofs.Granules.{granule-scrambled, size-words}
 use Rattle.model.specs.Lent.{Primitives}
-use Rattle.model.proofs.CopyWords.{secret-granule}
 use Rattle.model.specs.Commands.{granule, unscrambled}
 use Rattle.model.specs.PowerUp.{copy_word}
 
@@ -56,7 +56,7 @@ module _ (prims : Primitives) (map : Map) (fits : fit map ≡ true) (constants c
 
     -- the granule of a secret word is the block
     block_words : (rights_of here.kind).scrambled ≡ true → (first_word here (2 * (at + k)) ≡ at) × (word_count here (2 * (at + k)) ≡ 4)
-    block_words s = let w = secret-granule (inside map fits known).fits s (at + k) in (w.0 ∙ omega arith, w.1)
+    block_words s = let w = size-words here (2 * (at + k)) 8 (granule-scrambled (inside map fits known).fits s (2 * (at + k))) in (w.0 ∙ omega arith, w.1)
 
     zero_word : (rights_of here.kind).lockable ≡ true → 0 ≡ rule (at + k)
     unfolding copy_word
@@ -105,3 +105,14 @@ module _ (prims : Primitives) (map : Map) (fits : fit map ≡ true) (constants c
       by_cases (rights_of here.kind).scrambled
       (λ s. is-listed-from rule at 4 _ (length-words 4 _) (λ k h. secret-word h e s d))
       (λ s. ap (words_of 4) (if-false _ _ s) ∙ plain-block w e (rw s))
+
+-- ---- a block is stored
+
+pub stored-block : (f : ℕ → ℕ) (xs ws : List ℕ) (at : ℕ) → at + 4 ≤ length xs → ws ≡ listed f at 4 → ((j : ℕ) → j < at → get_or xs j 0 ≡ f j)
+    → (j : ℕ) → j < at + 4 → get_or (set (set (set (set xs at (get_or ws 0 0)) (at + 1) (get_or ws 1 0)) (at + 2) (get_or ws 2 0)) (at + 3) (get_or ws 3 0)) j 0 ≡ f j
+unfolding listed
+stored-block f xs ws at h e known =
+    let one : at + 1 ≡ suc at = omega arith in
+    let two : at + 2 ≡ suc (suc at) = omega arith in
+    let three : at + 3 ≡ suc (suc (suc at)) = omega arith in
+    rw (e, one, two, three) (sets_more f 4 xs at h known)

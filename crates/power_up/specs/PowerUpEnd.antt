@@ -1,4 +1,6 @@
 -- What a power-up leaves once it is known how it ends.
+use Rattle.std.specs.Prelude.{ℕ}
+use Rattle.std.proofs.Math.Option.{Option, none, some}
 use Rattle.partitions.specs.Map.{Map}
 use Rattle.model.specs.declared.Reason.{Reason}
 use Rattle.model.specs.declared.Phase.TheVariants.{Dead}
@@ -9,6 +11,13 @@ use Rattle.model.specs.Lent.{Lent, with_copy}
 use Rattle.model.specs.PowerUp.{PowerUpEnd, powered_copy, powered_session, powered_answer}
 use Rattle.model.specs.Step.{Result}
 use Rattle.chip.specs.Chip.{primitives, machine_of}
+use Rattle.power_up.specs.declared.Verdict.{Verdict}
+use Rattle.power_up.specs.declared.Verdict.TheVariants.{Passed, Failed}
+
+-- an integrity verdict as the code returns it
+abbrev pub verdict_in : Option ℕ → Verdict
+verdict_in none = Passed
+verdict_in (some number) = Failed number
 
 -- the model's result, for an end that depends on what is lent
 abbrev pub powered_result : Map → (Lent → PowerUpEnd) → Lent → Result

@@ -6,16 +6,22 @@ ghost use Rattle.partitions.specs.Maps.{map_of};
 ghost use Rattle.model.specs.declared.Command.TheVariants.{PowerUp};
 ghost use Rattle.model.specs.PowerUp.{sensed_digest, digests, digest_holds, first_failing, copy_word, life_cycle_in, life_cycle_end, power_up_end, succeeds};
 ghost use Rattle.chip.specs.Chip.{primitives, lent_of, result_of, Executes};
-ghost use Rattle.chip.specs.Verdicts.{verdict_in};
-ghost use Rattle.power_up.specs.PowerUpEnd.{powered_result, dead_outcome};
+ghost use Rattle.power_up.specs.PowerUpEnd.{verdict_in, powered_result, dead_outcome};
 
-use chip::{Judged, Verdict};
+use chip::Judged;
 use life_cycle::LifeCycle;
 use model::{Answer, ENTRIES, Outcome, Phase, Reason, Session, Sizes};
 use partitions::{MapName, Partition};
 
 // The value for a life cycle that is not valid.
 const INVALID: u64 = 0xFFFF;
+
+// The digest checks all passed, or the number of the first partition that failed.
+#[derive(Drop)]
+enum Verdict {
+    Passed,
+    Failed(usize),
+}
 
 // A partition has no hardware digest, stores none yet, or stores the one computed.
 fn digest_holds(cells: &[u16], constants: &[u16], partition: Partition) -> bool
@@ -107,12 +113,23 @@ fn latch(cells: &[u16], constants: &[u16], map: MapName, copy: &mut [u16])
     }
 }
 
+// Sets the copy to all zero.
+fn clear(copy: &mut [u16])
+    ensures { copy.new ≡ listed (λ j. 0) 0 (length copy.old) }
+{
+    let mut j = 0;
+    while j < copy.len() {
+        copy[j] = 0;
+        j += 1;
+    }
+}
+
 // A power-up that fails: nothing is sensed.
 fn dead(copy: &mut [u16], reason: Reason, answer: Answer) -> Outcome
     ensures copy { copy.new ≡ listed (λ j. 0) 0 (length copy.old) }
     ensures outcome { result ≡ dead_outcome reason answer }
 {
-    chip::clear(copy);
+    clear(copy);
     let session = Session::unlocked(Phase::Dead(reason), [0; 10], 0, 0);
     Outcome { session, answer }
 }

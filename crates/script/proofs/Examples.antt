@@ -6,7 +6,7 @@ use native.Mathlib.Omega.{arith}
 use lib.ListN.{length, replicate, length-replicate}
 use Rattle.basics.specs.Choice.{if◌then◌else◌}
 use Rattle.basics.specs.Range.{sum}
-use Rattle.model.specs.declared.Command.TheVariants.{Read, Write, Transition, PowerUp, Check}
+use Rattle.model.specs.declared.Command.TheVariants.{Read, Write, Transition, PowerUp}
 use Rattle.script.specs.declared.Refusal.TheVariants.{UnknownKind, CutShort, TooLong}
 use Rattle.script.specs.declared.Reading.TheVariants.{Record, End, Refused}
 use Rattle.script.specs.Records.{unknown, body_length, little_endian_at, command_at, next_at}
@@ -47,11 +47,7 @@ transition : next_at (6 ∷ 16 ∷ 1 ∷ 2 ∷ 3 ∷ 4 ∷ 5 ∷ 6 ∷ 7 ∷ 8 �
 unfolding next_at unknown body_length command_at little_endian_at sum if◌then◌else◌
 transition = refl
 
-check : next_at (7 ∷ 8 ∷ []) 1 ≡ Record Check 2
-unfolding next_at unknown body_length command_at little_endian_at sum if◌then◌else◌
-check = refl
-
-unknown-kind : next_at (7 ∷ 9 ∷ []) 1 ≡ Refused UnknownKind 1
+unknown-kind : next_at (7 ∷ 8 ∷ []) 1 ≡ Refused UnknownKind 1
 unfolding next_at unknown body_length command_at little_endian_at sum if◌then◌else◌
 unknown-kind = refl
 

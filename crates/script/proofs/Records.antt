@@ -95,8 +95,8 @@ led s p =
 kind-known : (s : List ℕ) (k at : ℕ) → unknown k ≡ false → kind_of (command_at s k at) ≡ k
 unfolding all_below unknown command_at if◌then◌else◌
 kind-known s k at known =
-    let h : k ≤ 8 = ltb-false _ _ (or-none-right (eqb k 0) _ known) in
-    eqb-true _ _ (rw known at (all-at 9 (λ i. unknown i || eqb (kind_of (command_at s i at)) i) tt k (omega arith)))
+    let h : k ≤ 7 = ltb-false _ _ (or-none-right (eqb k 0) _ known) in
+    eqb-true _ _ (rw known at (all-at 8 (λ i. unknown i || eqb (kind_of (command_at s i at)) i) tt k (omega arith)))
 
 -- what holds of a record that is read: its next place is behind its body and within the script, so that a loop over a script ends
 pub record IsRead (s : List ℕ) (p : ℕ) (c : Command) (n : ℕ) : Type 0 where

@@ -3,14 +3,14 @@ use Rattle.std.specs.Prelude.{ℕ, ◌+◌, Bool, ◌||◌, List, eqb, leb, ltb,
 use Rattle.basics.specs.Choice.{if◌then◌else◌}
 use Rattle.basics.specs.Digits.{number}
 use Rattle.model.specs.declared.Command.{Command}
-use Rattle.model.specs.declared.Command.TheVariants.{Read, Write, FrontRead, Digest, ReadLock, Transition, PowerUp, Check}
+use Rattle.model.specs.declared.Command.TheVariants.{Read, Write, FrontRead, Digest, ReadLock, Transition, PowerUp}
 use Rattle.script.specs.declared.Refusal.{Refusal}
 use Rattle.script.specs.declared.Refusal.TheVariants.{UnknownKind, CutShort, TooLong}
 use Rattle.script.specs.declared.Reading.{Reading}
 use Rattle.script.specs.declared.Reading.TheVariants.{Record, End, Refused}
 
--- "1 read 4; 2 write 4+8; 3 front read 4; 4 digest 4; 5 read lock 1; 6 transition 1+16; 7 power-up 0", and "kind 8, no body" (request
--- Seven): each command's kind, and below the length of its body
+-- "1 read 4; 2 write 4+8; 3 front read 4; 4 digest 4; 5 read lock 1; 6 transition 1+16; 7 power-up 0": each command's kind, and below the
+-- length of its body
 abbrev pub kind_of : Command → ℕ
 kind_of (Read address) = 1
 kind_of (Write address value) = 2
@@ -19,13 +19,12 @@ kind_of (Digest address) = 4
 kind_of (ReadLock partition) = 5
 kind_of (Transition target high low) = 6
 kind_of PowerUp = 7
-kind_of Check = 8
 
 -- any other kind
 unfoldable pub unknown : ℕ → Bool
-unknown kind = eqb kind 0 || ltb 8 kind
+unknown kind = eqb kind 0 || ltb 7 kind
 
--- 7 and 8 have no body, and neither has an unknown kind
+-- 7 has no body, and neither has an unknown kind
 unfoldable pub body_length : ℕ → ℕ
 body_length kind =
     if eqb kind 1 then 4
@@ -44,7 +43,7 @@ byte_at script at = get_or script at 0
 unfoldable pub little_endian_at : List ℕ → ℕ → ℕ → ℕ
 little_endian_at script at n = number 256 n (λ i. byte_at script (at + i))
 
--- the command of a known kind (8 where it is none of 1 to 7) whose body stands at `at`; the low half of a token comes first
+-- the command of a known kind (7 where it is none of 1 to 6) whose body stands at `at`; the low half of a token comes first
 unfoldable pub command_at : List ℕ → ℕ → ℕ → Command
 command_at script kind at =
     if eqb kind 1 then Read (little_endian_at script at 4)
@@ -53,8 +52,7 @@ command_at script kind at =
     else if eqb kind 4 then Digest (little_endian_at script at 4)
     else if eqb kind 5 then ReadLock (byte_at script at)
     else if eqb kind 6 then Transition (byte_at script at) (little_endian_at script (at + 9) 8) (little_endian_at script (at + 1) 8)
-    else if eqb kind 7 then PowerUp
-    else Check
+    else PowerUp
 
 -- "0x11 unknown kind", "0x13 script record cut short", "0x14 script longer than 65,536 bytes"
 abbrev pub refusal_code : Refusal → ℕ

@@ -21,8 +21,6 @@ pub const TRANSITION: u8 = 6;
 
 pub const POWER_UP: u8 = 7;
 
-pub const CHECK: u8 = 8;
-
 // The longest script that is read.
 pub const LONGEST: usize = 65536;
 
@@ -67,7 +65,6 @@ pub fn kind_of(command: Command) -> u8
         Command::ReadLock(_) => READ_LOCK,
         Command::Transition(_, _, _) => TRANSITION,
         Command::PowerUp => POWER_UP,
-        Command::Check => CHECK,
     }
 }
 
@@ -136,8 +133,7 @@ fn command_at(script: &[u8], kind: u8, at: usize) -> Command
                 eight_at(script, at + 1),
             )
         }
-        POWER_UP => Command::PowerUp,
-        _ => Command::Check,
+        _ => Command::PowerUp,
     }
 }
 
@@ -152,7 +148,7 @@ fn next_at(script: &[u8], place: usize) -> Reading
         return Reading::End;
     }
     let kind = script[place];
-    if (kind == 0) | (CHECK < kind) {
+    if (kind == 0) | (POWER_UP < kind) {
         return Reading::Refused(Refusal::UnknownKind, place);
     }
     let next = place + 1 + body_length(kind);

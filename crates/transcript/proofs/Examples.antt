@@ -56,8 +56,8 @@ unfolding all words constants example-script
 example-printed = refl
 
 -- a power-up, and the reader's own refusals: an unknown kind, and a record cut short
-unknown-kind : lines_whole (7 ∷ 9 ∷ []) (replicate 896 0) constants
-    ≡ record { kind = 0x07; code = 0x00; value = 0 } ∷ record { kind = 0x09; code = 0x11; value = 1 } ∷ []
+unknown-kind : lines_whole (7 ∷ 8 ∷ []) (replicate 896 0) constants
+    ≡ record { kind = 0x07; code = 0x00; value = 0 } ∷ record { kind = 0x08; code = 0x11; value = 1 } ∷ []
 unfolding all words constants
 unknown-kind = refl
 

@@ -10,7 +10,7 @@ use lib.ListN.{length}
 use Rattle.partitions.specs.Map.{Map}
 use Rattle.model.specs.declared.Answer.{Answer}
 use Rattle.model.specs.declared.Command.{Command}
-use Rattle.model.specs.declared.Command.TheVariants.{Read, Write, FrontRead, Digest, ReadLock, Transition, PowerUp, Check}
+use Rattle.model.specs.declared.Command.TheVariants.{Read, Write, FrontRead, Digest, ReadLock, Transition, PowerUp}
 use Rattle.model.specs.Lent.{right_lengths}
 use Rattle.model.specs.Step.{answers}
 use Rattle.model.specs.Claims.Terms.{ValidInputs, Matched}
@@ -41,7 +41,6 @@ only-power-up (Digest a) e = absurd (omega (arith, e))
 only-power-up (ReadLock number) e = absurd (omega (arith, e))
 only-power-up (Transition target high low) e = absurd (omega (arith, e))
 only-power-up PowerUp e = refl
-only-power-up Check e = absurd (omega (arith, e))
 
 module _ (P : List Command → Type 0) (s : List ℕ) (first : byte_at s 0 ≡ 7) (none : P []) (some : (l : List Command) → P (PowerUp ∷ l)) where
   begins-by : (n : ℕ) (r : Reading) → next_at s 0 ≡ r → P (commands_from (suc n) s 0)

@@ -22,7 +22,7 @@ use Rattle.model.specs.declared.Command.{Command}
 use Rattle.model.specs.declared.Command.TheVariants.{Transition}
 use Rattle.model.specs.declared.Outcome.{Outcome}
 use Rattle.model.specs.Lent.{Lent, Machine, with_cells}
-use Rattle.model.specs.Acts.{no_effect, to_inert, to_dead, effect_on, copy_after, Act, say, program, refuse}
+use Rattle.model.specs.Acts.{no_effect, to_inert, to_dead, effect_on, Act, say, program, refuse}
 use Rattle.model.specs.Commands.{life_cycle_rule, counter_at, state_at, move_act, authorization, authorized_act, transition_act, command_act, Authorization}
 use Rattle.chip.specs.Chip.{primitives, machine_of, result_of, result_for}
 use Rattle.chip.proofs.Acting.{admitting, comes_to, said, program-done, program-refused, admitted-result}
@@ -49,11 +49,11 @@ pub record Spendable (map : Map) (m : Machine) (target : ℕ) : Type 0 where
 
 module _ (s : Session) where
   now-inert : (l : Lent) (b : Answer) → comes_to (say b to_inert) (machine_of l s) ≡ result_of l (inert s b)
-  unfolding effect_on copy_after
+  unfolding effect_on
   now-inert l b = said (machine_of l s) b to_inert
 
   now-dead : (l : Lent) (cell : ℕ) → comes_to (say (NotBlank cell) to_dead) (machine_of l s) ≡ result_of l (dead s cell)
-  unfolding effect_on copy_after
+  unfolding effect_on
   now-dead l cell = said (machine_of l s) (NotBlank cell) to_dead
 
   -- the state words are programmed; the machine m decided
@@ -108,7 +108,7 @@ module _ (map : Map) (l : Lent) (s : Session) (target high low : ℕ) where
 
   pub bad-record : admitting map m ≡ none → (leb s.state 20 && leb s.count 24) ≡ false
       → (o : Outcome) → o ≡ as_before s NotReady → result_of l o ≡ result_for map x m
-  unfolding transition_act effect_on copy_after
+  unfolding transition_act effect_on
   bad-record e r o f = rw f (sym (decided e (refuse NotReady) (if-true _ _ (ap not r)) ∙ said m NotReady no_effect))
 
   module _ (q : Known map m) where
@@ -120,7 +120,7 @@ module _ (map : Map) (l : Lent) (s : Session) (target high low : ℕ) where
     aimed h a f = decided q.admitted-there a (good ∙ if-false _ _ (ap not (le-leb _ _ h)) ∙ f)
 
     pub unknown-target : 20 < target → (o : Outcome) → o ≡ as_before s UnknownTarget → result_of l o ≡ result_for map x m
-    unfolding effect_on copy_after
+    unfolding effect_on
     unknown-target h o f =
         rw f (sym (decided q.admitted-there (refuse UnknownTarget) (good ∙ if-true _ _ (ap not (lt-leb _ _ h))) ∙ said m UnknownTarget no_effect))
 

@@ -110,16 +110,7 @@ mod tests {
         let expected = "07 00 0000000000000000\nff 11 0000000000000001\nend 2\n";
         assert_eq!(on_blank(&[7, 255, 7]), expected);
         assert_eq!(on_blank(&[0]), "00 11 0000000000000000\nend 1\n");
-        assert_eq!(on_blank(&[9, 1]), "09 11 0000000000000000\nend 1\n");
-    }
-
-    /// The byte after it is the next record's kind.
-    #[test]
-    fn checks_have_no_body() {
-        let expected = "08 07 0000000000000000\n07 00 0000000000000000\n\
-                        08 00 0000000000000000\n08 00 0000000000000000\n\
-                        09 11 0000000000000004\nend 5\n";
-        assert_eq!(on_blank(&[8, 7, 8, 8, 9]), expected);
+        assert_eq!(on_blank(&[8, 1]), "08 11 0000000000000000\nend 1\n");
     }
 
     #[test]

@@ -16,8 +16,6 @@ const STATE: usize = 2;
 const COUNT: usize = 3;
 const DIGESTS: Range<usize> = 8..88;
 pub const LOCKS: Range<usize> = 88..98;
-/// Digests and read locks in a frame, whatever the map.
-pub const ENTRIES: usize = 10;
 pub const RECORD: Range<usize> = 112..144;
 pub const CODE: usize = 112;
 const VALUE: Range<usize> = 120..128;
@@ -185,6 +183,9 @@ mod tests {
     use crate::model::Command;
     use crate::script::record;
 
+    /// Digests and read locks in a frame.
+    const ENTRIES: usize = 10;
+
     fn frame_of(chip: &Chip, command: Command) -> Vec<u8> {
         of(chip, &record(command))
     }
@@ -242,47 +243,10 @@ mod tests {
 
     #[test]
     fn an_unknown_kind_leaves_the_machine() {
-        for kind in [0, 9, 255] {
+        for kind in [0, 8, 255] {
             let frame = of(&ready(&Map::one()), &[kind, 1, 2, 3]);
             let after = after(&frame);
             assert_eq!(answer_in(&after), (0x11, 0));
-            assert_eq!(after[..112], frame[..112]);
-            assert_eq!(after[144..], frame[144..]);
-        }
-    }
-
-    #[test]
-    fn a_failed_check_leaves_the_record_but_for_the_phase() {
-        for (map, number) in [(Map::one(), 6), (Map::two(), 10)] {
-            let mut chip = ready(&map);
-            chip.session.digests.resize(ENTRIES, 0);
-            chip.session.digests[1] = 0x0102_0304_0506_0708;
-            chip.session.read_locks.resize(ENTRIES, false);
-            chip.session.read_locks[0] = true;
-            (chip.session.state, chip.session.count) = (200, 7);
-            chip.copy.fill(0xa5a5);
-            let frame = of(&chip, &[8, 7, 7]);
-            let after = after(&frame);
-            assert_eq!(answer_in(&after), (6, number));
-            assert_eq!((after[PHASE], after[MAP]), (6, frame[MAP]));
-            assert_eq!(after[STATE..112], frame[STATE..112]);
-            let copy = COPY.lent_bytes(&frame);
-            assert_eq!(after[144..copy.start], frame[144..copy.start]);
-            assert_eq!(after[copy.clone()], vec![0; copy.len()]);
-            assert_eq!(after[copy.end..], frame[copy.end..]);
-        }
-    }
-
-    /// In Map 1 LIFE_CYCLE is partition 6 and there are none from 7 on.
-    #[test]
-    fn a_digest_of_no_partition_is_not_checked() {
-        for entry in 6..ENTRIES {
-            let mut chip = ready(&Map::one());
-            chip.session.digests.resize(ENTRIES, 0);
-            chip.session.digests[entry] = u64::MAX;
-            let frame = frame_of(&chip, Command::Check);
-            let after = after(&frame);
-            assert_eq!(answer_in(&after), (0, 0));
             assert_eq!(after[..112], frame[..112]);
             assert_eq!(after[144..], frame[144..]);
         }

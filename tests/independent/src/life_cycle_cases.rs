@@ -5,7 +5,7 @@ use crate::case_steps::{expect, in_state, powered};
 use crate::constants::{example, EXAMPLE_HASH, EXAMPLE_TOKEN};
 use crate::map::Map;
 use crate::model::{Chip, Command, Phase};
-use Command::{Check, Digest, FrontRead, PowerUp, Read, ReadLock, Transition, Write};
+use Command::{Digest, FrontRead, PowerUp, Read, ReadLock, Transition, Write};
 
 /// A map, with a front read, a digest and a read lock that are done on a Ready
 /// chip, and the start of SECRET0.
@@ -49,7 +49,7 @@ fn case_09_raw_unlock() {
         let mut chip = on.ready();
         expect(&mut chip, &[(Transition(1, EXAMPLE_TOKEN), 0, 0)]);
         assert_eq!(chip.session.phase, Phase::Inert);
-        let others = [Read(0), Write(0, 0), Transition(21, 0), Check];
+        let others = [Read(0), Write(0, 0), Transition(21, 0)];
         for command in others.into_iter().chain(on.done) {
             expect(&mut chip, &[(command, 7, 0)]);
         }

@@ -1,11 +1,8 @@
 //! Random machines, each with a record: as scripts leave them, and altered in
 //! every part, so that they are such as no script reaches.
 
-use crate::checked_machines;
 use crate::chips;
-use crate::frames::{
-    self, CELLS, CHECK_BYTES, CONSTANTS, COPY, ENTRIES, LOCKS, MAP, PHASE, RECORD, ZEROS,
-};
+use crate::frames::{self, CELLS, CHECK_BYTES, CONSTANTS, COPY, LOCKS, MAP, PHASE, RECORD, ZEROS};
 use crate::life_cycle::{MOST_STROKES, SCRAP};
 use crate::map::Map;
 use crate::model::{Chip, Command, Phase};
@@ -20,12 +17,6 @@ use std::io::{self, Write};
 /// Chips of each map that machines are made from.
 const BASES: usize = 40;
 
-/// The same, of machines for checks alone.
-const CHECKED: usize = 12;
-
-/// The kind of a record of checks.
-const CHECK: u8 = 8;
-
 /// A chip as commands left it, with the raw tokens of what it stores.
 struct Base {
     chip: Chip,
@@ -35,7 +26,6 @@ struct Base {
 /// Where machines come from.
 pub struct Machines {
     bases: Vec<Base>,
-    checked: Vec<Chip>,
 }
 
 impl Machines {
@@ -43,11 +33,8 @@ impl Machines {
     pub fn new(random: &mut Random) -> Machines {
         let maps = [Map::one(), Map::two()];
         let bases = (0..2 * BASES).map(|i| base(&maps[i % 2], random));
-        let bases = bases.collect();
-        let checked = (0..2 * CHECKED).map(|i| checked_machines::base(&maps[i % 2], random));
         Machines {
-            bases,
-            checked: checked.collect(),
+            bases: bases.collect(),
         }
     }
 
@@ -55,14 +42,18 @@ impl Machines {
     pub fn frame(&mut self, random: &mut Random) -> Vec<u8> {
         let chosen = random.below(self.bases.len() as u64) as usize;
         let Base { chip, tokens } = &mut self.bases[chosen];
-        let kind = 1 + random.below(8) as u8;
-        let mut chip = match kind == CHECK && !random.one_in(4) {
-            true => checked_machine(&self.checked, random),
-            false => altered(chip, tokens, random),
-        };
+        let mut chip = chip.clone();
+        alter_session(&mut chip, random);
+        alter_cells(&mut chip, random);
+        alter_copy(&mut chip, tokens, random);
         let record = match random.one_in(24) {
             true => vec![unknown_kind(random)],
-            false => record(random_commands::of_kind(kind, &chip, tokens, random)),
+            false => record(random_commands::of_kind(
+                1 + random.below(7) as u8,
+                &chip,
+                tokens,
+                random,
+            )),
         };
         match random.below(24) {
             0 => chip.constants = chips::invalid_constants(tokens, random),
@@ -98,28 +89,11 @@ fn base(map: &Map, random: &mut Random) -> Base {
     chip.execute(Command::PowerUp);
     let length = random.choose(&[0, 0, 3, 10]);
     random_commands::sequence(&mut chip, length, &mut tokens, random);
-    fill_record(&mut chip);
+    chip.session.digests.resize(map.partitions.len().max(10), 0);
+    chip.session
+        .read_locks
+        .resize(map.partitions.len().max(10), false);
     Base { chip, tokens }
-}
-
-/// As many entries in the record as a frame has, or more.
-pub fn fill_record(chip: &mut Chip) {
-    let entries = ENTRIES.max(chip.map.partitions.len());
-    chip.session.digests.resize(entries, 0);
-    chip.session.read_locks.resize(entries, false);
-}
-
-fn checked_machine(bases: &[Chip], random: &mut Random) -> Chip {
-    let chosen = random.below(bases.len() as u64) as usize;
-    checked_machines::machine(&bases[chosen], random)
-}
-
-fn altered(chip: &Chip, tokens: &mut RawTokens, random: &mut Random) -> Chip {
-    let mut chip = chip.clone();
-    alter_session(&mut chip, random);
-    alter_cells(&mut chip, random);
-    alter_copy(&mut chip, tokens, random);
-    chip
 }
 
 /// Another phase, state, count, and other digests and read locks than sensed.

@@ -5,10 +5,6 @@ mod bench;
 #[cfg(test)]
 mod case_steps;
 mod cases;
-mod checked_machines;
-mod checks;
-#[cfg(test)]
-mod checks_cases;
 mod child;
 mod chips;
 mod compare;
@@ -85,8 +81,10 @@ fn perform(arguments: &[String]) -> Result<bool, String> {
     let command = arguments.first().map(String::as_str);
     match (command, arguments.len()) {
         (Some("compare"), 2..=4) => {
-            let (count, mut random) = counted(&arguments[2..], CASES)?;
-            let cases = inputs::make(count as usize, &mut random);
+            let count = number(arguments.get(2), CASES)?;
+            let seed = number(arguments.get(3), SEED)?;
+            println!("seed {seed}");
+            let cases = inputs::make(count as usize, &mut Random::new(seed));
             compare::compare(Path::new(&arguments[1]), &cases)
         }
         (Some("speed"), 1..) => {
@@ -95,41 +93,38 @@ fn perform(arguments: &[String]) -> Result<bool, String> {
         }
         (Some("speed-power-up"), 2..) => speed::power_ups(&arguments[1..]),
         (Some("compare-runs"), 2..=4) => {
-            let (count, mut random) = counted(&arguments[2..], RUNS)?;
-            runs::compare(&arguments[1], count, &mut random)
+            let count = number(arguments.get(2), RUNS)?;
+            let seed = number(arguments.get(3), SEED)?;
+            println!("seed {seed}");
+            runs::compare(&arguments[1], count, &mut Random::new(seed))
         }
         (Some("compare-steps"), 2..=4) => {
-            let (count, mut random) = counted(&arguments[2..], STEPS)?;
-            steps::compare(Path::new(&arguments[1]), count, &mut random)
+            let count = number(arguments.get(2), STEPS)?;
+            let seed = number(arguments.get(3), SEED)?;
+            println!("seed {seed}");
+            steps::compare(Path::new(&arguments[1]), count, &mut Random::new(seed))
         }
         (Some("frames"), 2..=3) => {
             let count = number(arguments.get(1), 0)?;
             let seed = number(arguments.get(2), SEED)?;
-            done(machines::write(count, &mut Random::new(seed)))
+            match machines::write(count, &mut Random::new(seed)) {
+                Ok(()) => Ok(true),
+                Err(error) => Err(error.to_string()),
+            }
         }
-        (Some("steps"), 1) => done(frames::run()),
+        (Some("steps"), 1) => match frames::run() {
+            Ok(()) => Ok(true),
+            Err(error) => Err(error.to_string()),
+        },
         (Some("hash"), 2) => {
             println!("{:032x}", token::hash(token::given(&arguments[1])?));
             Ok(true)
         }
-        (Some("bench"), 1) => done(bench::run()),
+        (Some("bench"), 1) => match bench::run() {
+            Ok(()) => Ok(true),
+            Err(error) => Err(error.to_string()),
+        },
         _ => Err(USAGE.to_string()),
-    }
-}
-
-/// How many, and the numbers of a seed, which is printed: from the last two arguments, each of which may be left out.
-fn counted(arguments: &[String], otherwise: u64) -> Result<(u64, Random), String> {
-    let count = number(arguments.first(), otherwise)?;
-    let seed = number(arguments.get(1), SEED)?;
-    println!("seed {seed}");
-    Ok((count, Random::new(seed)))
-}
-
-/// What came of a command that only reads and writes.
-fn done(result: std::io::Result<()>) -> Result<bool, String> {
-    match result {
-        Ok(()) => Ok(true),
-        Err(error) => Err(error.to_string()),
     }
 }
 

@@ -1,5 +1,5 @@
 //! The chip: what is lent, the session, the order of refusals and the plain
-//! commands. Power-up, transition and checks stand in files of their own.
+//! commands. Power-up and transition stand in files of their own.
 
 use crate::constants::{self, CONSTANTS};
 use crate::digest;
@@ -35,7 +35,6 @@ pub enum Command {
     ReadLock(u8),
     Transition(u8, u128),
     PowerUp,
-    Check,
 }
 
 #[derive(Clone, Copy, PartialEq, Debug)]
@@ -133,7 +132,6 @@ impl Chip {
             Command::ReadLock(partition) => self.read_lock(partition),
             Command::Transition(target, token) => self.transition(target, token),
             Command::PowerUp => unreachable!(),
-            Command::Check => self.check(),
         }
     }
 
@@ -164,7 +162,9 @@ impl Chip {
             return NOT_ALLOWED;
         }
         let stored = match partition.kind {
-            Kind::Secret(secret) => self.scramble(secret, data),
+            Kind::Secret(secret) => {
+                present::encrypt(constants::secret_key(&self.constants, secret), data)
+            }
             _ => data,
         };
         let place = partition.granule_words(address);
@@ -226,26 +226,16 @@ impl Chip {
 
     /// The digest over the data words of a partition as they are stored.
     pub fn computed_digest(&self, number: usize) -> u64 {
-        self.digest_over(&self.cells[self.map.partitions[number].data()])
-    }
-
-    /// The digest over words, by the constants.
-    pub fn digest_over(&self, words: &[u16]) -> u64 {
         digest::digest(
             constants::digest_start(&self.constants),
             constants::final_key(&self.constants),
-            words,
+            &self.cells[self.map.partitions[number].data()],
         )
     }
 
     /// The digest of a partition in the cells, zero where there is none.
     pub fn stored_digest(&self, number: usize) -> u64 {
         words::number(&self.cells[self.map.partitions[number].digest_words()])
-    }
-
-    /// A block of a secret, by the secret's number, as it is stored.
-    pub fn scramble(&self, secret: usize, plain: u64) -> u64 {
-        present::encrypt(constants::secret_key(&self.constants, secret), plain)
     }
 
     /// A block of a secret, by the secret's number, as it was before scrambling.

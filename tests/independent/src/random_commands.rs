@@ -37,20 +37,19 @@ fn command(chip: &Chip, tokens: &mut RawTokens, random: &mut Random) -> Command 
     if chip.session.phase != Phase::Ready && !random.one_in(3) {
         return Command::PowerUp;
     }
-    let kind = match random.below(26) {
+    let kind = match random.below(24) {
         0..=5 => 1,
         6..=12 => 2,
         13..=14 => 3,
         15..=17 => 4,
         18 => 5,
         19..=21 => 6,
-        22..=23 => 7,
-        _ => 8,
+        _ => 7,
     };
     of_kind(kind, chip, tokens, random)
 }
 
-/// A command of a script's kind, 1 to 8.
+/// A command of a script's kind, 1 to 7.
 pub fn of_kind(kind: u8, chip: &Chip, tokens: &mut RawTokens, random: &mut Random) -> Command {
     match kind {
         1 => Command::Read(address(&chip.map, random)),
@@ -59,8 +58,7 @@ pub fn of_kind(kind: u8, chip: &Chip, tokens: &mut RawTokens, random: &mut Rando
         4 => Command::Digest(digest_address(&chip.map, random)),
         5 => Command::ReadLock(lock_number(&chip.map, random)),
         6 => transition(chip, tokens, random),
-        7 => Command::PowerUp,
-        _ => Command::Check,
+        _ => Command::PowerUp,
     }
 }
 
@@ -76,7 +74,7 @@ fn follow_up(last: Command, chip: &Chip, tokens: &mut RawTokens, random: &mut Ra
                 0..=3 => write(chip, near, tokens, random),
                 4..=5 => Command::Digest(start),
                 6 => Command::Read(in_digest(&chip.map, random)),
-                _ => random.choose(&[Command::PowerUp, Command::PowerUp, Command::Check]),
+                _ => Command::PowerUp,
             }
         }
         Command::ReadLock(number) => {
@@ -85,30 +83,22 @@ fn follow_up(last: Command, chip: &Chip, tokens: &mut RawTokens, random: &mut Ra
                 start, digest, end, ..
             } = chip.map.partitions[number];
             let middle = start + (digest - start) / 2;
-            match random.one_in(8) {
-                true => Command::Check,
-                false => {
-                    Command::Read(random.choose(&[start, middle, digest - 1, digest, end - 1]))
-                }
-            }
+            Command::Read(random.choose(&[start, middle, digest - 1, digest, end - 1]))
         }
-        Command::Transition(..) if random.one_in(8) => Command::Check,
         Command::Transition(..) => Command::PowerUp,
-        Command::PowerUp if random.one_in(8) => Command::Check,
-        Command::PowerUp | Command::Check => command(chip, tokens, random),
+        Command::PowerUp => command(chip, tokens, random),
     }
 }
 
 /// A command at an address just used, or on its partition.
 fn about(address: u32, chip: &Chip, tokens: &mut RawTokens, random: &mut Random) -> Command {
     let number = chip.map.find(address).unwrap_or(0);
-    match random.below(13) {
+    match random.below(12) {
         0..=2 => Command::Read(address),
         3..=6 => write(chip, address, tokens, random),
         7 => Command::FrontRead(address),
         8..=9 => Command::Digest(chip.map.partitions[number].start),
         10 => Command::ReadLock(number as u8),
-        11 => Command::Check,
         _ => Command::PowerUp,
     }
 }

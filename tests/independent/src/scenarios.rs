@@ -76,7 +76,7 @@ fn script(chip: &mut Chip, tokens: &mut RawTokens, random: &mut Random) -> Vec<u
         }
         7 => records = vec![(0..random.below(60)).map(|_| random.next() as u8).collect()],
         8 => {
-            let small = |random: &mut Random| random.below(10) as u8;
+            let small = |random: &mut Random| random.below(9) as u8;
             records.push((0..random.below(30)).map(|_| small(random)).collect());
         }
         9 => records.clear(),
@@ -108,8 +108,8 @@ fn cut(random: &mut Random) -> Vec<u8> {
 /// A kind that no record has.
 pub fn unknown_kind(random: &mut Random) -> u8 {
     match random.below(3) {
-        0 => random.choose(&[0, 9, 10, 0x10, 0x18, 0x80, 0x88, 0xff]),
-        _ => 9 + random.below(247) as u8,
+        0 => random.choose(&[0, 8, 9, 0x10, 0x17, 0x80, 0x81, 0xff]),
+        _ => 8 + random.below(248) as u8,
     }
 }
 
@@ -166,7 +166,6 @@ mod tests {
             ("05", "00 05 07 10 12 13"),
             ("06", "00 07 10 11 12 13 20 21 22 23"),
             ("07", "00 06 07 10 12"),
-            ("08", "00 07 10 12"),
             ("00", "11 14"),
         ];
         let pairs = |(kind, codes): (&str, &str)| -> Vec<String> {
@@ -185,8 +184,6 @@ mod tests {
             let mut missing = expected_pairs();
             for _ in 0..2000 {
                 for line in make(&map, &mut random).printed().lines() {
-                    // A power-up and the model's commands leave what checks ask for.
-                    assert!(!line.starts_with("08 06"), "{line}");
                     missing.remove(line.get(..5).unwrap_or(line));
                 }
                 if missing.is_empty() {
@@ -256,7 +253,7 @@ mod tests {
     #[test]
     fn tokens_and_key_states_are_often_right_and_sometimes_wrong() {
         for (map, writes) in [(Map::one(), 0), (Map::two(), 15)] {
-            let mut random = Random::new(36);
+            let mut random = Random::new(32);
             let mut seen = Seen::default();
             for _ in 0..500 {
                 seen.carry_out(&make(&map, &mut random));

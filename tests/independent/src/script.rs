@@ -5,7 +5,7 @@ use crate::model::Command;
 pub const LONGEST: usize = 65_536;
 
 /// Length of the body by kind; kind 0 is unknown.
-const BODY: [usize; 9] = [0, 4, 12, 4, 4, 1, 17, 0, 0];
+const BODY: [usize; 8] = [0, 4, 12, 4, 4, 1, 17, 0];
 
 #[derive(Clone, Copy, PartialEq, Debug)]
 pub enum Next {
@@ -38,7 +38,7 @@ impl<'a> Reader<'a> {
             return Next::End;
         };
         let place = self.place as u64;
-        if !(1..=8).contains(&kind) {
+        if !(1..=7).contains(&kind) {
             return Next::Refusal {
                 kind,
                 code: 0x11,
@@ -71,8 +71,7 @@ fn command(kind: u8, body: &[u8]) -> Command {
         4 => Command::Digest(address()),
         5 => Command::ReadLock(body[0]),
         6 => Command::Transition(body[0], little_endian(&body[1..])),
-        7 => Command::PowerUp,
-        _ => Command::Check,
+        _ => Command::PowerUp,
     }
 }
 
@@ -99,7 +98,6 @@ pub fn record(command: Command) -> Vec<u8> {
             (6, parts.concat())
         }
         Command::PowerUp => (7, Vec::new()),
-        Command::Check => (8, Vec::new()),
     };
     [vec![kind], body].concat()
 }
@@ -108,7 +106,7 @@ pub fn record(command: Command) -> Vec<u8> {
 mod tests {
     use super::*;
 
-    const ONE_OF_EACH: [Command; 8] = [
+    const ONE_OF_EACH: [Command; 7] = [
         Command::Read(0x0102_0304),
         Command::Write(0x328, 0x1122_3344_5566_7788),
         Command::FrontRead(u32::MAX),
@@ -116,13 +114,12 @@ mod tests {
         Command::ReadLock(9),
         Command::Transition(20, 0x0011_2233_4455_6677_8899_aabb_ccdd_eeff),
         Command::PowerUp,
-        Command::Check,
     ];
 
     #[test]
     fn records_read_back() {
         let script: Vec<u8> = ONE_OF_EACH.iter().flat_map(|&c| record(c)).collect();
-        assert_eq!(script.len(), 5 + 13 + 5 + 5 + 2 + 18 + 1 + 1);
+        assert_eq!(script.len(), 5 + 13 + 5 + 5 + 2 + 18 + 1);
         let mut reader = Reader::new(&script);
         for (i, command) in ONE_OF_EACH.into_iter().enumerate() {
             assert_eq!(
@@ -169,7 +166,7 @@ mod tests {
 
     #[test]
     fn unknown_kinds() {
-        for kind in [0, 9, 10, 255] {
+        for kind in [0, 8, 9, 255] {
             let script = [7, 7, kind, 7];
             let mut reader = Reader::new(&script);
             reader.next();

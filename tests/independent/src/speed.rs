@@ -1,6 +1,6 @@
 //! Speeds of proved programs, all in one run: encryptions a second, key
 //! schedule included, and the time of a token's hash, beside the twins', and
-//! the times of a power-up and of checks on demand.
+//! the time of a power-up.
 
 use crate::cases::{Case, ANSWER_BYTES, CHAIN, TOKEN};
 use crate::map::Map;
@@ -19,7 +19,7 @@ const TRIES: usize = 5;
 
 const ENCRYPTIONS: u64 = 500_000;
 const HASHES: u64 = 100_000;
-const COMMANDS: u64 = 10_000;
+const POWER_UPS: u64 = 10_000;
 
 const KEY: (u64, u64) = (0x0123_4567_89ab_cdef, 0xfedc_ba98_7654_3210);
 const BLOCK: u64 = 0x0f1e_2d3c_4b5a_6978;
@@ -82,40 +82,15 @@ pub fn token_hashes(programs: &[String]) -> Result<bool, String> {
     Ok(true)
 }
 
-/// What every command that is measured prints, but for its kind.
-const LINE: &str = "?? 00 0000000000000000\n";
-
-/// A command that is measured on bench programs: its name and its kind.
-#[derive(Clone, Copy)]
-struct Measured {
-    name: &'static str,
-    kind: u8,
-}
-
-const POWER_UP: Measured = Measured {
-    name: "power-up",
-    kind: 7,
-};
-const CHECK: Measured = Measured {
-    name: "check",
-    kind: 8,
-};
-
 /// Prints the time of a power-up on bench programs, for each map of a blank
-/// chip and of one that is fully locked, and there the time of checks on demand
-/// too. A program that does not know a map or the checks is named and left out
-/// there. False when what they print differs.
+/// chip and of one that is fully locked. A program that does not know a map is
+/// named and left out there. False when what they print differs.
 pub fn power_ups(programs: &[String]) -> Result<bool, String> {
     let mut agree = true;
     for map in [Map::one(), Map::two()] {
         let (blank, locked) = measured_chips(&map);
-        for (name, chip, measured) in [
-            ("blank", &blank, POWER_UP),
-            ("fully locked", &locked, POWER_UP),
-            ("fully locked", &locked, CHECK),
-        ] {
-            let name = format!("{}, {}, {name}", measured.name, map.name);
-            agree &= time_commands(measured, &name, chip, programs)?;
+        for (name, chip) in [("blank", blank), ("fully locked", locked)] {
+            agree &= time_power_ups(&format!("{}, {name}", map.name), &chip, programs)?;
         }
     }
     Ok(agree)
@@ -130,52 +105,40 @@ fn measured_chips(map: &Map) -> (Chip, Chip) {
     (blank, locked)
 }
 
-fn time_commands(
-    measured: Measured,
-    name: &str,
-    chip: &Chip,
-    programs: &[String],
-) -> Result<bool, String> {
+fn time_power_ups(name: &str, chip: &Chip, programs: &[String]) -> Result<bool, String> {
     let folder = std::env::temp_dir().join(format!("independent-{}", std::process::id()));
     let failure = |error: std::io::Error| error.to_string();
     runs::lay_files(&folder, &Run::of(&[], chip)).map_err(failure)?;
-    let times = best_commands(measured, name, &folder, programs);
+    let times = best_power_ups(name, &folder, programs);
     fs::remove_dir_all(&folder).map_err(failure)?;
     times
 }
 
-fn best_commands(
-    measured: Measured,
-    name: &str,
-    folder: &Path,
-    programs: &[String],
-) -> Result<bool, String> {
+fn best_power_ups(name: &str, folder: &Path, programs: &[String]) -> Result<bool, String> {
     let mut runners = Vec::new();
     for program in programs {
         let path = fs::canonicalize(program).map_err(|error| format!("{program}: {error}"))?;
-        match knows(&path, folder, measured)? {
-            true => runners.push(Runner::new(program, move |n| {
-                executed(&path, folder, measured, n)
-            })),
-            false => println!("     no {name}: {program}"),
+        match knows_the_image(&path, folder)? {
+            true => runners.push(Runner::new(program, move |n| powered_up(&path, folder, n))),
+            false => println!("     no power-up, {name}: {program}"),
         }
     }
-    let times = best_times(&runners, COMMANDS)?;
+    let times = best_times(&runners, POWER_UPS)?;
     for (runner, time) in runners.iter().zip(times.iter().flatten()) {
-        let each = time.as_secs_f64() * 1e6 / COMMANDS as f64;
-        println!("{each:>7.2} microseconds a {name}: {}", runner.name);
+        let each = time.as_secs_f64() * 1e6 / POWER_UPS as f64;
+        println!(
+            "{each:>7.2} microseconds a power-up, {name}: {}",
+            runner.name
+        );
     }
     Ok(times.is_some())
 }
 
-/// Whether a bench program takes the length of the image for a right one and
-/// knows the command's kind.
-fn knows(program: &Path, folder: &Path, measured: Measured) -> Result<bool, String> {
-    let two_lines = 2 * LINE.len() + "end 2\n".len();
-    let outcome = child::run(program, folder, script(measured, 1), two_lines)?;
-    let printed = String::from_utf8_lossy(&outcome.output);
-    let unknown = format!("\n{:02x} 11 ", measured.kind);
-    Ok(!printed.starts_with("07 10 ") && !printed.contains(&unknown))
+/// Whether a bench program takes the length of the image for a right one.
+fn knows_the_image(program: &Path, folder: &Path) -> Result<bool, String> {
+    let wrong_length = b"07 10 0000000000000000\nend 1\n";
+    let outcome = child::run(program, folder, vec![7], wrong_length.len())?;
+    Ok(outcome.output != wrong_length)
 }
 
 impl<'a> Runner<'a> {
@@ -257,25 +220,15 @@ fn one_answer(program: &str, case: &Case) -> Result<Vec<u8>, String> {
     Ok(outcome.output)
 }
 
-/// A power-up, then a command so many times.
-fn script(measured: Measured, count: u64) -> Vec<u8> {
-    [vec![7], vec![measured.kind; count as usize]].concat()
-}
-
-/// What a bench program prints of such a script; every command is done.
-fn executed(
-    program: &Path,
-    folder: &Path,
-    measured: Measured,
-    count: u64,
-) -> Result<Vec<u8>, String> {
-    let line = |kind: u8| LINE.replace("??", &format!("{kind:02x}"));
-    let lines = line(measured.kind).repeat(count as usize);
-    let expected = format!("{}{lines}end {}\n", line(7), count + 1);
-    let outcome = child::run(program, folder, script(measured, count), expected.len())?;
+/// What a bench program prints of a script of power-ups.
+fn powered_up(program: &Path, folder: &Path, count: u64) -> Result<Vec<u8>, String> {
+    let expected = "07 00 0000000000000000\n".repeat(count as usize) + &format!("end {count}\n");
+    let outcome = child::run(program, folder, vec![7; count as usize], expected.len())?;
     if outcome.output != expected.as_bytes() || !outcome.ended_well {
-        let (path, name) = (program.display(), measured.name);
-        return Err(format!("{path}: not {count} times a {name} that is done"));
+        return Err(format!(
+            "{}: not {count} power-ups that are done",
+            program.display()
+        ));
     }
     Ok(outcome.output)
 }
@@ -295,7 +248,6 @@ mod tests {
             assert!(digests.iter().all(|digest| *digest != 0));
             assert_eq!(*life_cycle, 0);
             assert_eq!(blank.session.digests, vec![0; digests.len() + 1]);
-            assert_eq!(locked.execute(Command::Check).code, 0);
         }
     }
 

@@ -16,7 +16,7 @@ const SHOWN: u64 = 5;
 
 /// The codes that each kind of record can have on some machine. Any other kind
 /// is unknown.
-const ANSWERS: [(&str, &[u8]); 9] = [
+const ANSWERS: [(&str, &[u8]); 8] = [
     ("unknown", &[0x11]),
     ("read", &[0x00, 0x05, 0x07, 0x10, 0x12]),
     ("write", &[0x00, 0x04, 0x05, 0x07, 0x10, 0x12]),
@@ -28,7 +28,6 @@ const ANSWERS: [(&str, &[u8]); 9] = [
         &[0x00, 0x04, 0x07, 0x10, 0x11, 0x12, 0x20, 0x21, 0x22, 0x23],
     ),
     ("power-up", &[0x00, 0x06, 0x07, 0x10, 0x12]),
-    ("checks", &[0x00, 0x06, 0x07, 0x10, 0x12]),
 ];
 
 /// How often each code was expected, by map and kind.
@@ -83,7 +82,7 @@ impl Tally {
 /// The row of a frame's record in the table above.
 fn kind_of(frame: &[u8]) -> usize {
     match usize::from(frame[CODE]) {
-        kind @ 1..=8 => kind,
+        kind @ 1..=7 => kind,
         _ => 0,
     }
 }

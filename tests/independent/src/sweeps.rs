@@ -2,7 +2,6 @@
 //! ones. What does not depend on the map is shared out between the maps.
 
 mod access;
-mod checks;
 mod files;
 mod life_cycles;
 mod programming;
@@ -40,7 +39,6 @@ pub fn runs(map: &Map, share: Share, random: &mut Random) -> Vec<Run> {
         files::runs(&blank, &locked, share),
         life_cycles::runs(&blank, &locked, share, random),
         tokens::runs(&blank, &locked, &tokens, random),
-        checks::runs(&blank, &locked),
     ]
     .into_iter()
     .flatten()

@@ -24,15 +24,10 @@ returns-6 c = rw c.before.before.before.before.before.before.command6.given.1 c.
 returns-7 : tie.Need-returns-7
 returns-7 c = rw c.before.before.before.before.before.enum_told.given.1 c.before.before.power-up.ensures
 
-returns-8 : tie.Need-returns-8
-returns-8 c = rw c.before.before.before.before.before.enum-told2.given.1 c.before.before.check.ensures
-
 pub execute-spec : {M : Type 1} → statement M
 execute-spec =
     tie.close
     (tie.spec
-    (λ c. search rules)
-    (λ c κs. search rules)
     (λ c. search rules)
     (λ c κs. search rules)
     (λ c. search rules)
@@ -67,7 +62,4 @@ execute-spec =
     returns-6
     (λ c. search rules)
     (λ c. search rules)
-    returns-7
-    (λ c. search rules)
-    (λ c. search rules)
-    returns-8)
+    returns-7)

@@ -17,7 +17,6 @@ use Rattle.model.specs.Claims.PowerUps.{PowerUps}
 use Rattle.model.specs.Claims.FailedPowerUps.{FailedPowerUps}
 use Rattle.model.specs.Claims.ReadLocks.{ReadLocks}
 use Rattle.model.specs.Claims.Sensing.{Sensing}
-use Rattle.model.specs.Claims.Checks.{Checks}
 
 pub record Claims (prims : Primitives) (map : Map) : Type 0 where
   pub classes : Classes
@@ -36,4 +35,3 @@ pub record Claims (prims : Primitives) (map : Map) : Type 0 where
   pub failed_power_ups : FailedPowerUps prims map
   pub read_locks : ReadLocks prims map
   pub sensing : Sensing prims map
-  pub checks : Checks prims map

@@ -1,21 +1,20 @@
 -- Demand 1, its last sentence, about every machine, whatever is lent: "A refused command leaves every fuse as it was, except that a life cycle request refused
 -- after its count has burned its counter words, one stroke more than its record counts." What such a request has burned is in Transitions.antt (`spent`,
 -- `stopped`).
-use Rattle.std.specs.Prelude.{ℕ, ◌≡◌, Bool, true, false, ◌||◌, List, ◌∷◌, ◌++◌, eqb, length}
+use Rattle.std.specs.Prelude.{ℕ, ◌≡◌, Bool, true, false, ◌||◌, List, ◌∷◌, ◌++◌, eqb}
 use Rattle.basics.specs.Choice.{if◌then◌else◌}
-use Rattle.basics.specs.Range.{listed}
 use Rattle.partitions.specs.Map.{Map}
 use Rattle.model.specs.declared.Reason.{Reason}
-use Rattle.model.specs.declared.Reason.TheVariants.{BitCleared, DigestFailed}
+use Rattle.model.specs.declared.Reason.TheVariants.{BitCleared}
 use Rattle.model.specs.declared.Phase.{Phase}
 use Rattle.model.specs.declared.Phase.TheVariants.{Inert, Dead}
 use Rattle.model.specs.declared.Command.{Command}
-use Rattle.model.specs.declared.Command.TheVariants.{Read, FrontRead, Transition, PowerUp, Check}
+use Rattle.model.specs.declared.Command.TheVariants.{Read, FrontRead, Transition, PowerUp}
 use Rattle.model.specs.Session.{reason_code}
 use Rattle.model.specs.Answers.{code_of}
-use Rattle.model.specs.Lent.{Machine, Primitives, with_copy}
+use Rattle.model.specs.Lent.{Machine, Primitives}
 use Rattle.model.specs.Step.{after, answers, machine_after, answer_to}
-use Rattle.model.specs.Claims.Terms.{not_power_up, quiet}
+use Rattle.model.specs.Claims.Terms.{quiet}
 
 -- the codes with which what is lent is refused
 abbrev pub judgement_code : ℕ → Bool
@@ -30,31 +29,16 @@ unfoldable pub phase_after : ℕ → Phase
 phase_after code = if eqb code 0x04 then Dead BitCleared else Inert
 
 module _ (prims : Primitives) (map : Map) where
-  -- on this machine the command is a read, a front read, a check that does not fail, or one that is refused and no transition
+  -- on this machine the command is a read, a front read, or one that is refused and no transition
   pub data Idle (m : Machine) : Command → Type 0 where
     reads : {a : ℕ} → Idle m (Read a)
     front_reads : {a : ℕ} → Idle m (FrontRead a)
-    checks : (code_of (answer_to prims map Check m) ≡ 0x06 → ⊥) → Idle m Check
-    refused : {x : Command} → quiet x → (code_of (answer_to prims map x m) ≡ 0x00 → ⊥) → (code_of (answer_to prims map x m) ≡ 0x06 → ⊥) → Idle m x
+    refused : {x : Command} → quiet x → (code_of (answer_to prims map x m) ≡ 0x00 → ⊥) → Idle m x
     unlent : judgement_code (code_of (answer_to prims map PowerUp m)) ≡ true → Idle m PowerUp
 
   pub record Refusals : Type 0 where
-    -- a read, write, front read, digest, read lock or check that answers neither 0 nor 6 leaves cells, copy and record as they were
-    pub commands : (m : Machine) (x : Command) → quiet x → (code_of (answer_to prims map x m) ≡ 0x00 → ⊥) → (code_of (answer_to prims map x m) ≡ 0x06 → ⊥)
-        → machine_after prims map x m ≡ m
-    -- "The first failure answers 6 with the partition, zeroes the copy and leaves Dead 6, the rest of the record as it was" (request Seven); the cells stay
-    pub failures : (m : Machine) (x : Command) → not_power_up x → code_of (answer_to prims map x m) ≡ 0x06
-        → machine_after prims map x m
-        ≡ record {
-          lent = with_copy (listed (λ j. 0) 0 (length m.lent.copy)) m.lent;
-          session = record {
-            phase = Dead DigestFailed;
-            sensed = m.session.sensed;
-            locks = m.session.locks;
-            state = m.session.state;
-            count = m.session.count;
-          };
-        }
+    -- a read, write, front read, digest or read lock that does not answer 0 leaves cells, copy and record as they were
+    pub commands : (m : Machine) (x : Command) → quiet x → (code_of (answer_to prims map x m) ≡ 0x00 → ⊥) → machine_after prims map x m ≡ m
     -- a power-up never changes a cell, and one that answers 0x10 or 0x12 changes nothing at all
     pub power_ups : (m : Machine)
         → ((machine_after prims map PowerUp m).lent.cells ≡ m.lent.cells)

@@ -40,11 +40,6 @@ module _ (prims : Primitives) (map : Map) where
     -- a partition that was found locked is as it was then
     pub locked : (n : ℕ) → Digested map n → (stored_digest (partition map n) c₀ ≡ 0 → ⊥) → SamePartition map n c₀ m.lent.cells
 
-  -- none of these commands answers 6
-  unfoldable pub NoSix : List Command → Machine → Type 0
-  NoSix [] m = Unit {0}
-  NoSix (x ∷ l) m = (code_of (answer_to prims map x m) ≡ 0x06 → ⊥) × NoSix l (machine_after prims map x m)
-
   pub record Sensing : Type 0 where
     -- "A fresh record is Off, all else zero."
     pub fresh : fresh_session ≡ record { phase = Off; sensed = replicate 10 0; locks = replicate 10 false; state = 0; count = 0 }
@@ -62,11 +57,11 @@ module _ (prims : Primitives) (map : Map) where
         → (stored_digest (partition map n) (after prims map l₁ m).lent.cells ≡ 0 → ⊥)
         → (a value : ℕ) → number_at map a ≡ n → answer_to prims map (FrontRead a) (after prims map (l₁ ++ PowerUp ∷ l₂) m) ≡ Done value
         → value ≡ granule (partition map n) (after prims map l₁ m).lent.cells a
-    -- a list without power-up and transition leaves the sensed digests as they were, on any machine, and the copy too where none of its commands answers 6
+    -- a list without power-up and transition leaves the copy and the sensed digests as they were, on any machine
     pub unsensed : (m : Machine) (l : List Command) → Quiet l
-        → ((after prims map l m).session.sensed ≡ m.session.sensed) × (NoSix l m → (after prims map l m).lent.copy ≡ m.lent.copy)
-    -- whatever else than 6 it answers, a command that is neither of these two nor a read lock leaves the copy and the record
-    pub recorded : (m : Machine) (x : Command) → quiet x → ((n : ℕ) → x ≡ ReadLock n → ⊥) → (code_of (answer_to prims map x m) ≡ 0x06 → ⊥)
+        → ((after prims map l m).lent.copy ≡ m.lent.copy) × ((after prims map l m).session.sensed ≡ m.session.sensed)
+    -- whatever it answers, a command that is neither of these two nor a read lock leaves the copy and the record
+    pub recorded : (m : Machine) (x : Command) → quiet x → ((n : ℕ) → x ≡ ReadLock n → ⊥)
         → ((machine_after prims map x m).lent.copy ≡ m.lent.copy) × ((machine_after prims map x m).session ≡ m.session)
     -- "valid constants unchanged": no command writes them
     pub constants : (m : Machine) (x : Command) → (machine_after prims map x m).lent.constants ≡ m.lent.constants

@@ -8,7 +8,7 @@ use Rattle.constants.specs.Constants.{valid_constants}
 use Rattle.model.specs.declared.Answer.{Answer}
 use Rattle.model.specs.declared.Answer.TheVariants.{Done}
 use Rattle.model.specs.declared.Command.{Command}
-use Rattle.model.specs.declared.Command.TheVariants.{Read, Write, FrontRead, Digest, ReadLock, Transition, PowerUp, Check}
+use Rattle.model.specs.declared.Command.TheVariants.{Read, Write, FrontRead, Digest, ReadLock, Transition, PowerUp}
 use Rattle.model.specs.Session.{locking}
 use Rattle.model.specs.Answers.{code_of, value_of}
 use Rattle.model.specs.Lent.{Machine, Primitives, right_lengths}
@@ -72,8 +72,7 @@ NoPowerUp (x ∷ l) = not_power_up x × NoPowerUp l
 abbrev pub quiet : Command → Type 0
 quiet x = elim (class_of x) [ sensing ↦ ⊥ | transiting ↦ ⊥ | access ↦ Unit {0} ]
 
--- Ready lasts "to the next power-up, whatever that answers, or to a transition that answers other than 0x11" (a failed check would end it; since a power-up
--- none fails: Checks.antt, `never`)
+-- Ready lasts "to the next power-up, whatever that answers, or to a transition that answers other than 0x11"
 abbrev pub stays_ready : Command → Answer → Type 0
 stays_ready x answer = elim (class_of x) [ sensing ↦ ⊥ | transiting ↦ code_of answer ≡ 0x11 | access ↦ Unit {0} ]
 
@@ -91,7 +90,6 @@ writing_of (Digest a) = digests_at a
 writing_of (ReadLock number) = writes_nothing
 writing_of (Transition target high low) = writes_nothing
 writing_of PowerUp = writes_nothing
-writing_of Check = writes_nothing
 
 -- the command is no write to the granule of address a that answers 0
 abbrev pub not_written : Map → ℕ → Command → Answer → Type 0

@@ -14,8 +14,8 @@ use mathlib.Core.List.{List}
 use mathlib.Core.Bool.{Bool}
 use Rattle.model.specs.PowerUp.{digest_holds, first_failing}
 use Rattle.chip.specs.Chip.{primitives}
-use Rattle.chip.specs.Verdicts.{verdict_in}
-use Rattle.chip.proofs.Reading.{data-within}
+use Rattle.power_up.specs.PowerUpEnd.{verdict_in}
+use Rattle.power_up.proofs.Checking.{data-within}
 use Rattle.power_up.proofs.first_failing.Statement.{statement}
 use Rattle.power_up.proofs.first_failing.Tie as tie
 

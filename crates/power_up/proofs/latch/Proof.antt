@@ -11,7 +11,7 @@ use Rattle.partitions.proofs.Maps.{maps-fit}
 use Rattle.model.specs.PowerUp.{copy_word}
 use Rattle.chip.proofs.LifeCyclePlace.{words-in-blocks}
 use Rattle.chip.specs.Chip.{primitives}
-use Rattle.chip.proofs.Blocks.{stored-block}
+use Rattle.power_up.proofs.Sensing.{stored-block}
 use Rattle.power_up.proofs.latch.Statement.{statement}
 use Rattle.power_up.proofs.latch.Tie as tie
 

@@ -70,22 +70,10 @@ returns-6 c = rw (c.eight-at3.ensures, c.before.eight-at2.ensures, c.before.befo
 
 returns-7 : tie.Need-returns-7
 unfolding command_at if◌then◌else◌
-returns-7 c = rw c.match.keys7
-
-returns-8 : tie.Need-returns-8
-unfolding command_at if◌then◌else◌
-returns-8 c =
+returns-7 c =
     let r = c.match.rest in
     let q = r.0.0.0 in
-    simp (
-      ne_eqb _ _ r.1,
-      ne_eqb _ _ r.0.1,
-      ne_eqb _ _ r.0.0.1,
-      ne_eqb _ _ q.1,
-      ne_eqb _ _ q.0.1,
-      ne_eqb _ _ q.0.0.1,
-      ne_eqb _ _ q.0.0.0.1,
-    )
+    simp (ne_eqb _ _ r.1, ne_eqb _ _ r.0.1, ne_eqb _ _ r.0.0.1, ne_eqb _ _ q.1, ne_eqb _ _ q.0.1, ne_eqb _ _ q.0.0.1)
 
 pub command-at-spec : {M : Type 1} → statement M
 command-at-spec =
@@ -109,5 +97,4 @@ command-at-spec =
     returns-4
     returns-5
     returns-6
-    returns-7
-    returns-8)
+    returns-7)

@@ -5,7 +5,7 @@ use crate::constants::{A, B, C, D};
 use crate::model::{Chip, Command};
 use crate::scenarios::Run;
 use crate::script::record;
-use Command::{Check, Digest, FrontRead, PowerUp, Read, ReadLock, Transition, Write};
+use Command::{Digest, FrontRead, PowerUp, Read, ReadLock, Transition, Write};
 
 pub fn runs(blank: &Chip, locked: &Chip, share: Share) -> Vec<Run> {
     let mut runs: Vec<Run> = share.of(broken_scripts(blank).into_iter()).collect();
@@ -17,7 +17,7 @@ pub fn runs(blank: &Chip, locked: &Chip, share: Share) -> Vec<Run> {
 /// Every unknown kind, and every known one cut at every length.
 fn broken_scripts(blank: &Chip) -> Vec<Run> {
     let unknown = (0..=255)
-        .filter(|kind| !(1..=8).contains(kind))
+        .filter(|kind| !(1..=7).contains(kind))
         .map(|kind| vec![kind, 7]);
     let commands = [
         Read(0),
@@ -50,7 +50,7 @@ fn broken_constants(blank: &Chip) -> Vec<Run> {
         for (before, after) in [(0, after), (after, after), (before, after & !lacking)] {
             let mut broken = blank.clone();
             (broken.constants[low], broken.constants[high]) = (before, after);
-            runs.push(Run::of(&[Read(0), PowerUp, Check], &broken));
+            runs.push(Run::of(&[Read(0), PowerUp], &broken));
         }
     }
     runs
@@ -74,7 +74,6 @@ fn wrong_lengths(chip: &Chip) -> Vec<Run> {
         Read(end - 0x60),
         Read(end),
         FrontRead(0x440),
-        Check,
     ];
     let images = IMAGES.into_iter().map(|length| {
         let mut run = Run::of(&commands, chip);
@@ -127,7 +126,7 @@ mod tests {
     fn the_two_shares_are_the_whole() {
         let blank = blank(&Map::two(), 43);
         let whole = broken_scripts(&blank);
-        assert_eq!(whole.len(), 248 + 42);
+        assert_eq!(whole.len(), 249 + 42);
         let scripts = |share: Share| -> Vec<Vec<u8>> {
             let part = share.of(broken_scripts(&blank).into_iter());
             part.map(|run| run.script).collect()

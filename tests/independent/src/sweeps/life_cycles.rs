@@ -10,7 +10,7 @@ use crate::model::{Chip, Command};
 use crate::random::Random;
 use crate::scenarios::Run;
 use crate::words::words_of;
-use Command::{Check, PowerUp, Read, Transition};
+use Command::{PowerUp, Read, Transition};
 
 pub fn runs(blank: &Chip, locked: &Chip, share: Share, random: &mut Random) -> Vec<Run> {
     let mut runs: Vec<Run> = share.of(life_cycles(blank).into_iter()).collect();
@@ -20,15 +20,14 @@ pub fn runs(blank: &Chip, locked: &Chip, share: Share, random: &mut Random) -> V
     runs
 }
 
-/// Every state with every count, powered up and scrapped, with checks between.
+/// Every state with every count, powered up and scrapped.
 fn life_cycles(blank: &Chip) -> Vec<Run> {
     let mut runs = Vec::new();
     for state in 0..=SCRAP {
         for count in 0..=24 {
             let mut chip = blank.clone();
             chips::lay(&mut chip, state, count);
-            let scrap = Transition(SCRAP, 0);
-            let commands = [PowerUp, Check, scrap, Read(0), Check, PowerUp, Check];
+            let commands = [PowerUp, Transition(SCRAP, 0), Read(0), PowerUp];
             runs.push(Run::of(&commands, &chip));
         }
     }
@@ -51,7 +50,7 @@ fn damages(locked: &Chip, random: &mut Random) -> Vec<Run> {
     for word in first_checked(&chip).data().start..chip.cells.len() {
         let mut damaged = chip.clone();
         damaged.cells[word] ^= 1 << random.below(16);
-        runs.push(Run::of(&[PowerUp, Read(0x248), Check], &damaged));
+        runs.push(Run::of(&[PowerUp, Read(0x248)], &damaged));
     }
     runs
 }

@@ -1,2 +1,0 @@
-pub mod Rescrambling
-pub mod Faults
