@@ -1,5 +1,7 @@
 // The bench program: it reads the script and the two files, and writes the lines that `transcript` and `script` make. Where standard output does not
 // take a line, it writes no more of them, so that the end line only stands behind all lines, and says so on standard error.
+#![tactic(auto)]
+
 ghost use Rattle.std.specs.Prelude.{◌≡◌, ◌+◌, ◌≤◌, length, take};
 ghost use Rattle.io.specs.Counts.{IsPrefixLen};
 
@@ -12,14 +14,14 @@ use transcript::Continuation;
 const MOST_RECORDS: u32 = 65538;
 
 // How many bytes of lines wait to be written, and whether all before them were.
-#[derive(Drop)]
+#[derive(Clone, Copy)]
 struct Waiting {
     used: usize,
     written: bool,
 }
 
 // Where a rehearsal stands.
-#[derive(Drop)]
+#[derive(Clone, Copy)]
 struct Progress {
     session: Session,
     place: usize,

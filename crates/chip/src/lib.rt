@@ -1,4 +1,6 @@
 // What commands share: they judge what they are lent, and find keys and digests in it.
+#![tactic(auto)]
+
 ghost use Rattle.std.specs.Prelude.{◌≡◌, ◌+◌, ◌*◌, ◌^◌};
 ghost use Rattle.digest.specs.Digest.{digest_words};
 ghost use Rattle.partitions.specs.Maps.{map_of};
@@ -13,7 +15,7 @@ use partitions::{Kind, MapName, Partition};
 use words::{Halves, block_at, eight_words};
 
 // What is lent is accepted, or refused with an answer.
-#[derive(Drop)]
+#[derive(Clone, Copy)]
 pub enum Judged {
     Accepted,
     Refused(Answer),

@@ -1,4 +1,6 @@
 // Where each constant stands among the constants, and whether they are valid.
+#![tactic(auto)]
+
 ghost use Rattle.std.specs.Prelude.{◌≡◌, ◌+◌, ◌<◌, get_or};
 ghost use Rattle.basics.specs.Range.{all_below};
 ghost use Rattle.constants.specs.Constants.{pair_valid, valid_constants};

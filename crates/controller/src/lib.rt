@@ -1,4 +1,6 @@
 // One command of a script, by value: what everything above calls.
+#![tactic(auto)]
+
 ghost use Rattle.partitions.specs.Maps.{map_of};
 ghost use Rattle.chip.specs.Chip.{lent_of, Executes};
 

@@ -1,4 +1,6 @@
 // cSHAKE128 of NIST SP 800-185: the string encodings go straight into the sponge.
+#![tactic(auto)]
+
 ghost use Rattle.std.specs.Prelude.{◌≡◌, suc, ◌+◌, ◌*◌, ◌-◌, ◌≤◌, ◌++◌, length};
 ghost use Rattle.basics.specs.Range.{listed};
 ghost use Rattle.basics.specs.Digits.{digit};

@@ -1,4 +1,6 @@
 // The digest construction over the block cipher.
+#![tactic(auto)]
+
 ghost use Rattle.std.specs.Prelude.{◌≡◌, ◌+◌, ◌*◌, ◌^◌, ◌<◌, length};
 ghost use Rattle.digest.specs.Digest.{absorb, absorb_all, blocks_of, digest_words};
 

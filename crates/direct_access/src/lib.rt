@@ -1,4 +1,6 @@
 // The commands of the direct access interface, and front reads. The session record goes in by value and comes back in the outcome.
+#![tactic(auto)]
+
 ghost use Rattle.std.specs.Prelude.{◌≡◌, ◌+◌, ◌≤◌, length};
 ghost use Rattle.partitions.specs.Map.{first_word, word_count};
 ghost use Rattle.partitions.specs.Maps.{map_of};
@@ -14,7 +16,7 @@ use partitions::{MapName, Partition};
 use words::{Programmed, Rule};
 
 // The place of an address: the number of its partition, and the partition. Or the command is refused.
-#[derive(Drop)]
+#[derive(Clone, Copy)]
 enum Reached {
     At(usize, Partition),
     Refused(Answer),

@@ -1,4 +1,6 @@
 // Single steps on any machine: a frame of 5,120 bytes holds a machine and a record; a step executes it and answers in its place.
+#![tactic(auto)]
+
 mod numbers;
 mod reading;
 mod writing;
@@ -13,7 +15,7 @@ use partitions::MapName;
 use script::Reading;
 
 // What a step gives back beside what is lent.
-#[derive(Drop)]
+#[derive(Clone, Copy)]
 struct Stepped {
     session: Session,
     code: u8,

@@ -1,6 +1,8 @@
 // Answers cases from standard input, each by a function of the libraries, for a program written apart to compare. A case is 256 bytes:
 // operation, a, b, c, n and m of 8 bytes each, 16 bytes that say nothing, 96 words of 2 bytes. An answer is 128 bytes: a result of 8, 24
 // zeros, 48 words. All is little-endian. tests/independent/README.md lists the operations.
+#![tactic(auto)]
+
 mod hashes;
 
 ghost use Rattle.std.specs.Prelude.{◌≡◌, ◌≤◌, ◌<◌, length};
@@ -8,7 +10,7 @@ ghost use Rattle.std.specs.Prelude.{◌≡◌, ◌≤◌, ◌<◌, length};
 use libc::{STDIN_FILENO, STDOUT_FILENO};
 use words::{Programmed, Rule};
 
-#[derive(Drop)]
+#[derive(Clone, Copy)]
 pub(crate) struct Answer {
     pub(crate) result: u64,
     pub(crate) words: [u16; 48],

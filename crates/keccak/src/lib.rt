@@ -1,4 +1,6 @@
 // The permutation Keccak-f[1600] of FIPS 202 over 25 lanes of 64 bits. Lane 5 * y + x has the bits at x and y; a row is the five lanes of one y.
+#![tactic(auto)]
+
 mod tables;
 
 ghost use Rattle.std.specs.Prelude.{◌≡◌, ◌+◌, ◌*◌, ◌-◌, ◌%◌, ◌<◌};

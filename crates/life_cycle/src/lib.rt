@@ -1,4 +1,6 @@
 // The life cycle: counter and state words, their decoding, and the transition table.
+#![tactic(auto)]
+
 ghost use Rattle.std.proofs.Math.Option.{some};
 ghost use Rattle.std.specs.Prelude.{◌≡◌, ◌+◌, ◌<◌};
 ghost use Rattle.life_cycle.specs.Words.{counter_word, counter_words, has_b, state_word, state_words, same_words, encoded_by, life_cycle_of, decoded};
@@ -25,14 +27,14 @@ pub const SCRAP: u8 = 20;
 pub const STROKES: u8 = 24;
 
 // What the life cycle words stand for: a state number and a stroke count.
-#[derive(Drop)]
+#[derive(Clone, Copy)]
 pub enum LifeCycle {
     Valid(u8, u8),
     Invalid,
 }
 
 // The token that a transition needs.
-#[derive(Drop)]
+#[derive(Clone, Copy)]
 pub enum Token {
     Nothing,
     RawUnlock,
@@ -42,7 +44,7 @@ pub enum Token {
 }
 
 // An entry of the transition table.
-#[derive(Drop)]
+#[derive(Clone, Copy)]
 pub enum Entry {
     Allowed(Token),
     Forbidden,

@@ -1,5 +1,7 @@
 // Reads frames of 5,120 bytes from standard input until they end, and writes for each the frame after its command (`frames::step`). A frame that is cut short
 // ends it.
+#![tactic(auto)]
+
 ghost use Rattle.std.specs.Prelude.{◌≡◌, length};
 
 use libc::{STDIN_FILENO, STDOUT_FILENO};

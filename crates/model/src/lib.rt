@@ -1,10 +1,12 @@
 // The types of the model: the session record, answers and commands. Their meaning is in `specs/`.
+#![tactic(auto)]
+
 ghost use Rattle.std.specs.Prelude.{◌≡◌};
 ghost use Rattle.model.specs.Session.{fresh_session, unlocked, in_phase, with_lock, sensed_at, sensed_locked, read_locked};
 ghost use Rattle.model.specs.Answers.{code_of, value_of};
 
 // Why a phase is dead: a programmed bit would have been cleared (4), a digest check failed (6), the life cycle is not usable (7).
-#[derive(Drop)]
+#[derive(Clone, Copy)]
 pub enum Reason {
     BitCleared,
     DigestFailed,
@@ -12,7 +14,7 @@ pub enum Reason {
 }
 
 // The phase of a session; a dead one carries its reason.
-#[derive(Drop)]
+#[derive(Clone, Copy)]
 pub enum Phase {
     Off,
     Ready,
@@ -24,7 +26,7 @@ pub enum Phase {
 pub const ENTRIES: usize = 10;
 
 // The session record: phase, sensed digests, read locks, life cycle state and stroke count.
-#[derive(Drop)]
+#[derive(Clone, Copy)]
 pub struct Session {
     pub phase: Phase,
     pub sensed: [u64; 10],
@@ -34,14 +36,14 @@ pub struct Session {
 }
 
 // How many words are lent as cells and as sensed copy.
-#[derive(Drop)]
+#[derive(Clone, Copy)]
 pub struct Sizes {
     pub cells: usize,
     pub copy: usize,
 }
 
 // What a command answers. `NotBlank` names the lowest cell that refused, `DigestFailed` the partition.
-#[derive(Drop)]
+#[derive(Clone, Copy)]
 pub enum Answer {
     Done(u64),
     NotBlank(usize),
@@ -59,7 +61,7 @@ pub enum Answer {
 }
 
 // A command: addresses are byte addresses, a token comes as its high and its low 64 bits.
-#[derive(Drop)]
+#[derive(Clone, Copy)]
 pub enum Command {
     Read(u32),
     Write(u32, u64),
@@ -71,7 +73,7 @@ pub enum Command {
 }
 
 // What a command gives back beside what is lent.
-#[derive(Drop)]
+#[derive(Clone, Copy)]
 pub struct Outcome {
     pub session: Session,
     pub answer: Answer,

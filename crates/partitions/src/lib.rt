@@ -1,5 +1,7 @@
 // The partitions of the fuse array: kinds and their rights, and the two maps by name. The partitions of a map are types with constants of their own,
 // in the map's module.
+#![tactic(auto)]
+
 pub mod map1;
 pub mod map2;
 
@@ -7,7 +9,7 @@ ghost use Rattle.std.specs.Prelude.{◌≡◌, ◌/◌, length};
 ghost use Rattle.partitions.specs.Map.{rights_of, number_at, partition, limit, in_digest, granule_at, first_word, word_count, number_of_kind};
 ghost use Rattle.partitions.specs.Maps.{map_of};
 
-#[derive(Drop)]
+#[derive(Clone, Copy)]
 pub enum Kind {
     Software,
     AuthState,
@@ -19,7 +21,7 @@ pub enum Kind {
 }
 
 // What a kind is granted: direct access, a run-time read lock, a hardware digest, scrambled data, front reads, bits added to data that is not blank.
-#[derive(Drop)]
+#[derive(Clone, Copy)]
 pub struct Rights {
     pub direct: bool,
     pub lockable: bool,
@@ -30,7 +32,7 @@ pub struct Rights {
 }
 
 // A partition in byte addresses: where it starts, where its digest is, the first address past it, and the granule of its data.
-#[derive(Drop)]
+#[derive(Clone, Copy)]
 pub struct Partition {
     pub kind: Kind,
     pub start: usize,
@@ -104,7 +106,7 @@ impl Kind {
 }
 
 // The words of a granule: the first, and how many there are.
-#[derive(Drop)]
+#[derive(Clone, Copy)]
 pub struct Granule {
     pub word: usize,
     pub words: usize,
@@ -167,7 +169,7 @@ impl Partition {
 }
 
 // The maps that a caller can name.
-#[derive(Drop)]
+#[derive(Clone, Copy)]
 pub enum MapName {
     Map1,
     Map2,

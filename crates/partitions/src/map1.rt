@@ -6,7 +6,7 @@ ghost use Rattle.partitions.specs.Map1.{map1};
 use crate::{Kind, Partition};
 
 // CREATOR_SW_CFG
-#[derive(Drop)]
+#[derive(Clone, Copy)]
 pub struct CreatorSwCfg {}
 
 impl CreatorSwCfg {
@@ -30,7 +30,7 @@ impl CreatorSwCfg {
 }
 
 // OWNER_SW_CFG
-#[derive(Drop)]
+#[derive(Clone, Copy)]
 pub struct OwnerSwCfg {}
 
 impl OwnerSwCfg {
@@ -54,7 +54,7 @@ impl OwnerSwCfg {
 }
 
 // HW_CFG: DEVICE_ID in its first 32 bytes
-#[derive(Drop)]
+#[derive(Clone, Copy)]
 pub struct HwCfg {}
 
 impl HwCfg {
@@ -78,7 +78,7 @@ impl HwCfg {
 }
 
 // SECRET0: TEST_UNLOCK and TEST_EXIT tokens
-#[derive(Drop)]
+#[derive(Clone, Copy)]
 pub struct Secret0 {}
 
 impl Secret0 {
@@ -102,7 +102,7 @@ impl Secret0 {
 }
 
 // SECRET1: flash address, flash data and SRAM seeds
-#[derive(Drop)]
+#[derive(Clone, Copy)]
 pub struct Secret1 {}
 
 impl Secret1 {
@@ -126,7 +126,7 @@ impl Secret1 {
 }
 
 // SECRET2: RMA token and two root key shares
-#[derive(Drop)]
+#[derive(Clone, Copy)]
 pub struct Secret2 {}
 
 impl Secret2 {
@@ -150,7 +150,7 @@ impl Secret2 {
 }
 
 // LIFE_CYCLE: 24 counter words, then 20 state words; no digest, so that its digest address is its end
-#[derive(Drop)]
+#[derive(Clone, Copy)]
 pub struct LifeCycle {}
 
 impl LifeCycle {

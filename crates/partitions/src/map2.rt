@@ -6,7 +6,7 @@ ghost use Rattle.partitions.specs.Map2.{map2};
 use crate::{Kind, Partition};
 
 // VENDOR_TEST
-#[derive(Drop)]
+#[derive(Clone, Copy)]
 pub struct VendorTest {}
 
 impl VendorTest {
@@ -30,7 +30,7 @@ impl VendorTest {
 }
 
 // CREATOR_SW_CFG
-#[derive(Drop)]
+#[derive(Clone, Copy)]
 pub struct CreatorSwCfg {}
 
 impl CreatorSwCfg {
@@ -54,7 +54,7 @@ impl CreatorSwCfg {
 }
 
 // OWNER_SW_CFG
-#[derive(Drop)]
+#[derive(Clone, Copy)]
 pub struct OwnerSwCfg {}
 
 impl OwnerSwCfg {
@@ -78,7 +78,7 @@ impl OwnerSwCfg {
 }
 
 // ROT_CREATOR_AUTH_CODESIGN
-#[derive(Drop)]
+#[derive(Clone, Copy)]
 pub struct RotCreatorAuthCodesign {}
 
 impl RotCreatorAuthCodesign {
@@ -102,7 +102,7 @@ impl RotCreatorAuthCodesign {
 }
 
 // ROT_CREATOR_AUTH_STATE
-#[derive(Drop)]
+#[derive(Clone, Copy)]
 pub struct RotCreatorAuthState {}
 
 impl RotCreatorAuthState {
@@ -126,7 +126,7 @@ impl RotCreatorAuthState {
 }
 
 // HW_CFG0
-#[derive(Drop)]
+#[derive(Clone, Copy)]
 pub struct HwCfg0 {}
 
 impl HwCfg0 {
@@ -150,7 +150,7 @@ impl HwCfg0 {
 }
 
 // HW_CFG1
-#[derive(Drop)]
+#[derive(Clone, Copy)]
 pub struct HwCfg1 {}
 
 impl HwCfg1 {
@@ -174,7 +174,7 @@ impl HwCfg1 {
 }
 
 // SECRET0: TEST_UNLOCK and TEST_EXIT tokens
-#[derive(Drop)]
+#[derive(Clone, Copy)]
 pub struct Secret0 {}
 
 impl Secret0 {
@@ -198,7 +198,7 @@ impl Secret0 {
 }
 
 // SECRET1: flash address, flash data and SRAM seeds
-#[derive(Drop)]
+#[derive(Clone, Copy)]
 pub struct Secret1 {}
 
 impl Secret1 {
@@ -222,7 +222,7 @@ impl Secret1 {
 }
 
 // SECRET2: RMA token and two root key shares
-#[derive(Drop)]
+#[derive(Clone, Copy)]
 pub struct Secret2 {}
 
 impl Secret2 {
@@ -246,7 +246,7 @@ impl Secret2 {
 }
 
 // LIFE_CYCLE: 24 counter words, then 20 state words; no digest, so that its digest address is its end
-#[derive(Drop)]
+#[derive(Clone, Copy)]
 pub struct LifeCycle {}
 
 impl LifeCycle {

@@ -1,4 +1,6 @@
 // Power-up: the stored digests are checked, the life cycle is decoded, and copy and session are sensed anew.
+#![tactic(auto)]
+
 ghost use Rattle.std.specs.Prelude.{◌≡◌, ◌+◌, ◌*◌, ◌/◌, ◌%◌, ◌≤◌, ◌<◌, length};
 ghost use Rattle.basics.specs.Range.{listed};
 ghost use Rattle.partitions.specs.Map.{limit};
@@ -17,7 +19,7 @@ use partitions::{MapName, Partition};
 const INVALID: u64 = 0xFFFF;
 
 // The digest checks all passed, or the number of the first partition that failed.
-#[derive(Drop)]
+#[derive(Clone, Copy)]
 enum Verdict {
     Passed,
     Failed(usize),

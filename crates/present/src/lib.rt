@@ -1,5 +1,7 @@
 // The block cipher PRESENT: 64-bit block, 128-bit key, 31 rounds and a last key addition. A key comes as its high and its low 64 bits.
 // Groups of four bits and parts of the key register are put together by a sum: their bits do not meet.
+#![tactic(auto)]
+
 mod tables;
 
 ghost use Rattle.std.specs.Prelude.{◌≡◌, ℕ, ◌+◌, ◌*◌, ◌/◌, ◌%◌, ◌^◌, ◌<◌};
@@ -66,7 +68,7 @@ fn permuted_back(table: &[u64; 256], x: u64) -> u64
 }
 
 // The key register.
-#[derive(Drop)]
+#[derive(Clone, Copy)]
 struct Key {
     high: u64,
     low: u64,

@@ -1,4 +1,6 @@
 // The script's records and their reader, and the lines of the output.
+#![tactic(auto)]
+
 ghost use Rattle.std.specs.Prelude.{◌≡◌, ◌+◌, ◌≤◌, ◌<◌, length};
 ghost use Rattle.script.specs.Records.{kind_of, body_length, little_endian_at, command_at, refusal_code, next_at, place_after};
 ghost use Rattle.script.specs.Reader.{reader_next, advanced_reader};
@@ -25,7 +27,7 @@ pub const POWER_UP: u8 = 7;
 pub const LONGEST: usize = 65536;
 
 // Why a script is not read on.
-#[derive(Drop)]
+#[derive(Clone, Copy)]
 pub enum Refusal {
     UnknownKind,
     CutShort,
@@ -33,7 +35,7 @@ pub enum Refusal {
 }
 
 // What stands at a place of a script: a record's command and the place after it, the end, or a refusal with its place.
-#[derive(Drop)]
+#[derive(Clone, Copy)]
 pub enum Reading {
     Record(Command, usize),
     End,
@@ -169,7 +171,7 @@ fn place_after(script: &[u8], place: usize) -> usize
 }
 
 // A script and a place in it.
-#[derive(Drop)]
+#[derive(Clone, Copy)]
 pub struct Reader<'a> {
     pub script: &'a [u8],
     pub place: usize,
@@ -251,7 +253,7 @@ fn decimal_length(x: u64) -> usize
 }
 
 // The end line: its bytes come first, then zeros.
-#[derive(Drop)]
+#[derive(Clone, Copy)]
 pub struct EndLine {
     pub bytes: [u8; 25],
     pub len: usize,

@@ -1,4 +1,6 @@
 // The sponge of FIPS 202 over Keccak-f[1600], with a rate of 168 bytes: it takes a message a byte at a time, and gives bytes of any number.
+#![tactic(auto)]
+
 ghost use Rattle.std.specs.Prelude.{◌≡◌, ◌<◌, length};
 ghost use Rattle.sponge.specs.Sponge.{state_byte, squeezed};
 ghost use Rattle.sponge.specs.Streaming.{rate, sponge_of, fresh, with_byte, permuted_if_full, taken, taken_all, filled, finished};
@@ -6,7 +8,7 @@ ghost use Rattle.sponge.specs.Streaming.{rate, sponge_of, fresh, with_byte, perm
 const RATE: usize = 168;
 
 // The lanes with the bytes of the block in hand added, and how many they are.
-#[derive(Drop)]
+#[derive(Clone, Copy)]
 pub struct Sponge {
     pub lanes: [u64; 25],
     pub at: usize,

@@ -1,4 +1,6 @@
 // The hash of a life cycle token.
+#![tactic(auto)]
+
 ghost use Rattle.std.specs.Prelude.{◌≡◌, ◌+◌, ◌*◌, ◌^◌, ◌≤◌, ◌<◌, get_or};
 ghost use Rattle.basics.specs.Digits.{number};
 ghost use Rattle.token_hash.specs.TokenHash.{token_bytes, token_hash};

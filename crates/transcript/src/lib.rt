@@ -1,4 +1,5 @@
 // A rehearsal, record by record: the next record of a script is read and executed, and its line made. And the files of words.
+#![tactic(auto)]
 
 ghost use Rattle.std.specs.Prelude.{◌≡◌, List, ◌++◌, ℕ, ◌+◌, ◌*◌, length, drop};
 ghost use Rattle.partitions.specs.Maps.{map_of};
@@ -13,7 +14,7 @@ use partitions::{MapName, map2};
 use script::{Reading, Refusal};
 
 // How a rehearsal goes on: with a line and more to come, with a last line, or with the script's end and no line.
-#[derive(Drop)]
+#[derive(Clone, Copy)]
 pub enum Continuation {
     Continues,
     Stops,
@@ -21,7 +22,7 @@ pub enum Continuation {
 }
 
 // What a record gives back beside what is lent.
-#[derive(Drop)]
+#[derive(Clone, Copy)]
 pub struct RunOutcome {
     pub session: Session,
     pub continuation: Continuation,

@@ -1,4 +1,6 @@
 // The life cycle transition: a stroke is spent first, then the table is asked and the token hashed and compared, then the state words are programmed.
+#![tactic(auto)]
+
 ghost use Rattle.std.specs.Prelude.{◌≡◌, List, ℕ, suc, ◌+◌, ◌*◌, ◌/◌, ◌^◌, ◌≤◌, ◌<◌};
 ghost use Rattle.words.specs.Programming.{program_answer, program_cells};
 ghost use Rattle.partitions.specs.Map.{partition, number_of_kind};
@@ -17,7 +19,7 @@ use partitions::{Kind, MapName};
 use words::{Halves, Programmed, Rule, eight_words};
 
 // Table and token permit the move, or refuse it with an answer.
-#[derive(Drop)]
+#[derive(Clone, Copy)]
 enum Permit {
     Granted,
     Refused(Answer),

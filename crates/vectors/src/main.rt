@@ -1,5 +1,7 @@
 // The published vectors: of PRESENT with a key of 128 bits, a line for each with the key, the block, the block encrypted, and that decrypted again; then those
 // of the hashes.
+#![tactic(auto)]
+
 mod hashes;
 
 // A block encrypted and decrypted again. That it is the block is proved, whatever the key.

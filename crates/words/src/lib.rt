@@ -1,17 +1,19 @@
 // Fuse words of 16 bits: the numbers they stand for, and programming.
+#![tactic(auto)]
+
 ghost use Rattle.std.specs.Prelude.{◌≡◌, ◌+◌, ◌*◌, ◌^◌, ◌≤◌, min, length, get_or, take};
 ghost use Rattle.words.specs.Words.{number_of, part_at, words_of};
 ghost use Rattle.words.specs.Programming.{refuses, program_answer, program_cells};
 
 // A rule of refusal: a programmed bit must stay, or every word must be blank.
-#[derive(Drop)]
+#[derive(Clone, Copy)]
 pub enum Rule {
     KeepBits,
     BlankOnly,
 }
 
 // What programming answers: done, or the lowest cell that refused, counted over the whole array.
-#[derive(Drop)]
+#[derive(Clone, Copy)]
 pub enum Programmed {
     Done,
     Refused(usize),
@@ -79,7 +81,7 @@ pub fn block_at(words: &[u16], at: usize) -> u64
 }
 
 // A number of 128 bits by its high and its low 64 bits.
-#[derive(Drop)]
+#[derive(Clone, Copy)]
 pub struct Halves {
     pub high: u64,
     pub low: u64,
