@@ -39,3 +39,5 @@ pub leaves-phase : (t : Effect) (s : Session) → leaves_phase t → (effect_on 
 unfolding effect_on
 leaves-phase no_effect s h = refl
 leaves-phase (lock number) s h = refl
+leaves-phase to_inert s h = elim h [ ]
+leaves-phase to_dead s h = elim h [ ]

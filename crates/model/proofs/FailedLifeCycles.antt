@@ -24,7 +24,6 @@ use Rattle.model.specs.Claims.Terms.{ValidInputs}
 use Rattle.model.specs.Claims.FailedPowerUps.{Scrapped}
 use Rattle.model.specs.Commands.{class_of, access}
 use Rattle.model.proofs.Steps.{step-all, step-up, step_both}
-use Rattle.model.proofs.TransitionEnds.{moved}
 use Rattle.model.proofs.LifeCycleWords.{up-life, others-life}
 use Rattle.model.proofs.Since.{Reached, first-reached, step-reached, recorded, first-since}
 use Rattle.model.proofs.TransitionLife.{LifeAfter, kept, spent, went, transition-life}

@@ -13,7 +13,7 @@ use Rattle.words.proofs.Parts.{part_same}
 use Rattle.words.proofs.Programming.{program-elsewhere, program-takes, program-length}
 use Rattle.partitions.specs.Map.{Map, number_of_kind}
 use Rattle.partitions.specs.Fitness.{fit}
-use Rattle.partitions.proofs.Map.{life-cycle-last, life-cycle-partition, partition-fit, inside}
+use Rattle.partitions.proofs.Map.{life-cycle-last, life-cycle-partition, partition-fit}
 use Rattle.life_cycle.specs.declared.LifeCycle.TheVariants.{Valid}
 use Rattle.life_cycle.specs.declared.Token.{Token}
 use Rattle.life_cycle.specs.declared.Entry.TheVariants.{Allowed}

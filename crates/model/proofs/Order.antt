@@ -66,8 +66,12 @@ acted-plain : (answer : Answer) (t : Effect) → Acted answer t → Plain answer
 acted-plain (Done value) t h = ((refl, refl), λ e. absurd (true-not-false refl e))
 acted-plain (NotBlank cell) t h = ((refl, refl), λ e. absurd (true-not-false refl e))
 acted-plain Denied t h = ((refl, refl), λ e. refl)
+acted-plain (DigestFailed _) t h = elim h [ ]
 acted-plain NotReady t h = ((refl, refl), λ e. refl)
+acted-plain (LifeCycleFailed _) t h = elim h [ ]
+acted-plain WrongLength t h = elim h [ ]
 acted-plain UnknownTarget t h = ((refl, refl), λ e. refl)
+acted-plain InvalidConstants t h = elim h [ ]
 acted-plain StrokesUsed t h = ((refl, refl), λ e. refl)
 acted-plain NotInTable t h = ((refl, refl), λ e. refl)
 acted-plain TokenNotLocked t h = ((refl, refl), λ e. refl)

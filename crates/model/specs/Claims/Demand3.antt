@@ -1,5 +1,5 @@
 -- Demand 3, whole: one claim over every list of commands that begins with a power-up.
-use Rattle.std.specs.Prelude.{ℕ, ◌+◌, ◌^◌, ◌<◌, ◌≡◌, false, List, ◌∷◌, ◌++◌}
+use Rattle.std.specs.Prelude.{ℕ, ◌^◌, ◌<◌, ◌≡◌, false, List, ◌∷◌, ◌++◌}
 use Rattle.words.specs.Programming.{Kept}
 use Rattle.partitions.specs.Map.{Map, number_at, partition, partition_at, limit, in_digest, first_word}
 use Rattle.model.specs.declared.Answer.TheVariants.{Done}
