@@ -4,15 +4,8 @@ use Rattle.basics.specs.Choice.{if◌then◌else◌}
 use Rattle.basics.specs.Range.{listed, sum}
 use Rattle.keccak.specs.StepMappings.{register_step, register, rc, round_constant}
 use Rattle.keccak.specs.Tables.{round_constants}
-use Rattle.keccak.proofs.tables.round_constants.Statement.{statement}
-use Rattle.keccak.proofs.tables.round_constants.Tie as tie
+use Rattle.keccak.proofs.tables.round_constants.Goals as goal
 
-returns : tie.Need-returns
+pub returns : goal.returns
 unfolding if◌then◌else◌ listed sum register_step register rc round_constant round_constants
 returns c = refl
-
-pub round-constants-spec : {M : Type 1} → statement M
-round-constants-spec =
-    tie.close
-    (tie.spec
-    returns)

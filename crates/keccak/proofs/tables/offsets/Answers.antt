@@ -4,15 +4,8 @@ use Rattle.basics.specs.Choice.{if◌then◌else◌}
 use Rattle.basics.specs.Range.{listed, sum}
 use Rattle.keccak.specs.StepMappings.{rho_position, offset}
 use Rattle.keccak.specs.Tables.{offsets}
-use Rattle.keccak.proofs.tables.offsets.Statement.{statement}
-use Rattle.keccak.proofs.tables.offsets.Tie as tie
+use Rattle.keccak.proofs.tables.offsets.Goals as goal
 
-returns : tie.Need-returns
+pub returns : goal.returns
 unfolding if◌then◌else◌ listed sum rho_position offset offsets
 returns c = refl
-
-pub offsets-spec : {M : Type 1} → statement M
-offsets-spec =
-    tie.close
-    (tie.spec
-    returns)
