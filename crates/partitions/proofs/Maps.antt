@@ -1,18 +1,17 @@
 -- Both maps are fit: the test is computed.
 use mathlib.Core.Path.{◌≡◌, refl, sym, ◌∙◌}
 use mathlib.Core.Bool.{true}
-use Prim.Native.Nat.{ℕ, zero, suc, ◌≤◌, ◌<◌}
-use native.Mathlib.Omega.{arith}
+use Prim.Native.Nat.{ℕ, ◌≤◌, ◌<◌}
 use lib.ListN.{length}
 use Rattle.basics.specs.Choice.{if◌then◌else◌}
 use Rattle.partitions.specs.declared.MapName.{MapName}
 use Rattle.partitions.specs.declared.MapName.TheVariants.{Map1, Map2}
-use Rattle.partitions.specs.Map.{Map, rights_of, number_at, nowhere, partition, limit, kind_number, number_of_kind}
+use Rattle.partitions.specs.Map.{Map, rights_of, number_at, partition, limit, kind_number, number_of_kind}
 use Rattle.partitions.specs.Map1.{map1}
 use Rattle.partitions.specs.Map2.{map2}
 use Rattle.partitions.specs.Maps.{map_of}
 use Rattle.partitions.specs.Fitness.{placed, digested, life_cycle_words, fit_from, count_of_kind, once, fit}
-use Rattle.partitions.proofs.Map.{partition-past, only, outside}
+use Rattle.partitions.proofs.Map.{only, outside}
 
 pub map1-fit : fit map1 ≡ true
 unfolding fit fit_from placed digested life_cycle_words count_of_kind once kind_number number_of_kind partition limit rights_of if◌then◌else◌ map1
@@ -45,21 +44,9 @@ map2-length = refl
 
 -- ---- what the code's matches test, over any fit map
 
--- n is none of the keys below k
-abbrev pub NoKey : ℕ → ℕ → Type 0
-NoKey zero n = Unit {0}
-NoKey (suc k) n = NoKey k n × (n ≡ k → ⊥)
-
-past-keys : (k n : ℕ) → NoKey k n → k ≤ n
-past-keys zero n h = omega arith
-past-keys (suc k) n h = let l = past-keys k n h.0 in let d = h.1 in omega arith
-
 module _ (map : Map) (fits : fit map ≡ true) (count : ℕ) (counted : length map ≡ count) where
   pub in-range : (n : ℕ) {a : ℕ} → (n < count) × ((partition map n).start ≤ a) × (a < (partition map n).end) → n ≡ number_at map a
   in-range n h = sym (only map fits (rw counted h.0) h.1 h.2)
 
   pub past_end : {a : ℕ} → limit map ≤ a → count ≡ number_at map a
   past_end h = sym (outside map fits h ∙ counted)
-
-  pub no-partition : (n : ℕ) → NoKey count n → partition map n ≡ nowhere
-  no-partition n h = partition-past map (rw counted (past-keys count n h))

@@ -76,9 +76,8 @@ unaligned : fit (secrets (row Software 216 228 236 4 ∷ row Software 236 248 25
 unfolding fitness
 unaligned = refl
 
--- ---- "each is of a kind in Map 2, with that kind's rights and room for its data and digest": the type has these kinds alone, and `rightsOf` their rights; so
--- a
--- granule that is not the kind's, no data, a digest of 16 bytes, none
+-- ---- "each is of a kind in Map 2, with that kind's rights and room for its data and digest": the type has these kinds alone, and `rights_of` their rights;
+-- so a granule that is not the kind's, no data, a digest of 16 bytes, none
 
 granule-of-8 : fit (secrets (row Software 216 224 232 8 ∷ last 232)) ≡ false
 unfolding fitness
