@@ -4,12 +4,8 @@ use Rattle.basics.specs.Choice.{if◌then◌else◌}
 use Rattle.basics.specs.Range.{listed, sum}
 use Rattle.present.specs.Present.{s_box, place, permute}
 use Rattle.present.specs.Tables.{table_of}
-use Rattle.present.proofs.tables.round_table.Statement.{statement}
-use Rattle.present.proofs.tables.round_table.Tie as tie
+use Rattle.present.proofs.tables.round_table.Goals as goal
 
-returns : tie.Need-returns
+pub returns : goal.returns
 unfolding if◌then◌else◌ listed sum s_box place permute table_of
 returns c = refl
-
-pub round-table-spec : {M : Type 1} → statement M
-round-table-spec = tie.close (tie.spec returns)

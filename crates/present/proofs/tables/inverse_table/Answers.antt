@@ -4,12 +4,8 @@ use Rattle.basics.specs.Choice.{if◌then◌else◌}
 use Rattle.basics.specs.Range.{listed, sum}
 use Rattle.present.specs.Present.{s_box, place, s_box_inverse, permute_back}
 use Rattle.present.specs.Tables.{table_of}
-use Rattle.present.proofs.tables.inverse_table.Statement.{statement}
-use Rattle.present.proofs.tables.inverse_table.Tie as tie
+use Rattle.present.proofs.tables.inverse_table.Goals as goal
 
-returns : tie.Need-returns
+pub returns : goal.returns
 unfolding if◌then◌else◌ listed sum s_box place s_box_inverse permute_back table_of
 returns c = refl
-
-pub inverse-table-spec : {M : Type 1} → statement M
-inverse-table-spec = tie.close (tie.spec returns)
