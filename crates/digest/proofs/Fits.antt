@@ -27,7 +27,7 @@ unfolding absorb_all
 absorb-all-lt s l [] h = l
 absorb-all-lt s l (low ∷ []) h = absorb-lt low s (lt_of_lt_of_le (h 0) (pow-le-pow_right {n = 2} (omega arith) {i = 64} {j = 128} (omega arith))) l
 absorb-all-lt s l (low ∷ high ∷ blocks) h =
-    absorb-all-lt _ (absorb-lt _ s (digits_lt {m = 2 ^ 64} (h 1) (h 0)) l) blocks (λ i. h (suc (suc i)))
+    absorb-all-lt (absorb (high * 2 ^ 64 + low) s) (absorb-lt _ s (digits_lt {m = 2 ^ 64} (h 1) (h 0)) l) blocks (λ i. h (suc (suc i)))
 
 blocks-lt : {ws : List ℕ} → Words ws → (i : ℕ) → get_or (blocks_of ws) i 0 < 2 ^ 64
 unfolding blocks_of
