@@ -5,15 +5,11 @@ use native.Mathlib.Omega.{arith}
 use lib.Dec.{eqb}
 use Rattle.constants.specs.Constants.{pair_valid}
 use Rattle.constants.proofs.Constants.{or-test}
-use Rattle.constants.proofs.pair_valid.Statement.{statement}
-use Rattle.constants.proofs.pair_valid.Tie as tie
+use Rattle.constants.proofs.pair_valid.Goals as goal
 
-returns : tie.Need-returns
+pub returns : goal.returns
 unfolding pair_valid
 returns c =
     let low = c.args.low in
     let up = c.args.up in
     ap (λ (kept : Bool). not (eqb low 0) && not (eqb low up) && kept) (or-test low up (omega arith))
-
-pub pair-valid-spec : {M : Type 1} → statement M
-pair-valid-spec = tie.close (tie.spec returns)
