@@ -81,7 +81,8 @@ module _ {a : List ℕ} (l : Lanes a) (x y : ℕ) where
   pub pi-lane : get_or a (5 * x + (x + 3 * y) % 5) 0 ≡ lane_of (pi_bit a x y)
   pi-lane = is-lane (lane-at l ((x + 3 * y) % 5) x _ refl)
 
-  pub chi-lane : bit_xor (get_or a (5 * y + x) 0) (bit_and (bit_xor (get_or a (5 * y + (x + 1) % 5) 0) 0xffff_ffff_ffff_ffff) (get_or a (5 * y + (x + 2) % 5) 0))
+  pub chi-lane :
+      bit_xor (get_or a (5 * y + x) 0) (bit_and (bit_xor (get_or a (5 * y + (x + 1) % 5) 0) 0xffff_ffff_ffff_ffff) (get_or a (5 * y + (x + 2) % 5) 0))
       ≡ lane_of (chi_bit a x y)
   chi-lane =
       let complement = xor-bits (lane-at l ((x + 1) % 5) y _ refl) ones-bits in
