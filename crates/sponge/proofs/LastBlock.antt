@@ -19,7 +19,8 @@ use Rattle.sponge.proofs.Bytes.{Bytes, below_one, below-append}
 use Rattle.sponge.proofs.Lanes.{added-with, added_more}
 
 -- lists with one front differ where what follows it does
-append-entry : (front xs ys : List ℕ) (j : ℕ) → ((r : ℕ) → j ≡ length front + r → get_or xs r 0 ≡ get_or ys r 0) → get_or (front ++ xs) j 0 ≡ get_or (front ++ ys) j 0
+append-entry : (front xs ys : List ℕ) (j : ℕ) → ((r : ℕ) → j ≡ length front + r → get_or xs r 0 ≡ get_or ys r 0)
+    → get_or (front ++ xs) j 0 ≡ get_or (front ++ ys) j 0
 append-entry [] xs ys j h = h j (sym (zero-add j))
 append-entry (a ∷ front) xs ys zero h = refl
 append-entry (a ∷ front) xs ys (suc j) h = append-entry front xs ys j (λ r e. h r (omega arith))

@@ -174,7 +174,8 @@ module _ (rate n : ℕ) (domain : List ℕ) (pos : 0 < rate) (short : length dom
       first : (p : ℕ) → p < length begun → get_or (begun ++ rest) p 0 ≡ wanted p
       first p l =
           get_or-append begun rest 0 p l
-          ∙ sym (ap (bit_xor (get_or begun p 0)) (if-false 1 0 (ne_eqb (p + 1) (8 * count) (λ e. omega (arith, some, size-begun)))) ∙ xor_zero_r (get_or begun p 0))
+          ∙ sym (ap (bit_xor (get_or begun p 0)) (if-false 1 0 (ne_eqb (p + 1) (8 * count) (λ e. omega (arith, some, size-begun))))
+          ∙ xor_zero_r (get_or begun p 0))
 
       later : (p : ℕ) → length begun ≤ p → get_or (begun ++ rest) p 0 ≡ wanted p
       later p l =

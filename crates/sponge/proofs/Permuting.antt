@@ -49,7 +49,8 @@ permuted-due state i l z =
     let e : i / rate ≡ suc ((i - 1) / rate) = omega arith in
     rw e
 
-pub permuted-not-due : (state : List ℕ) (i : ℕ) → (ltb 0 i && eqb (i % rate) 0) ≡ false → permuted_times ((i - 1) / rate) state ≡ permuted_times (i / rate) state
+pub permuted-not-due : (state : List ℕ) (i : ℕ) → (ltb 0 i && eqb (i % rate) 0) ≡ false
+    → permuted_times ((i - 1) / rate) state ≡ permuted_times (i / rate) state
 permuted-not-due state i f = ap (λ (n : ℕ). permuted_times n state) e
   where
     first : (a b : Bool) → (a && b) ≡ false → a ≡ true → b ≡ false
