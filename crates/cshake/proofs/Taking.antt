@@ -81,8 +81,8 @@ encode-some : (x : ℕ) (ys : List ℕ) → 0 < length (left_encode x ++ ys)
 unfolding left_encode
 encode-some x ys = omega arith
 
-pub prefix-taken : (xs ys : List ℕ) {t u v w r : Sponge} → t ≡ fresh → u ≡ taken_all t (left_encode 168) → v ≡ taken_all u xs → w ≡ taken_all v ys → r ≡ filled w
-    → r ≡ taken_all fresh (bytepad (xs ++ ys) 168)
+pub prefix-taken : (xs ys : List ℕ) {t u v w r : Sponge} → t ≡ fresh → u ≡ taken_all t (left_encode 168) → v ≡ taken_all u xs → w ≡ taken_all v ys
+    → r ≡ filled w → r ≡ taken_all fresh (bytepad (xs ++ ys) 168)
 unfolding bytepad
 prefix-taken xs ys start width first second full =
     let two = then-all fresh (left_encode 168) xs (all-taken (left_encode 168) start width) first in
