@@ -5,3 +5,4 @@ pub mod Secrets
 pub mod Maps
 pub mod Numbers
 pub mod Unfit
+pub mod Ranges

@@ -177,6 +177,7 @@ impl LifeCycle {
 pub const COUNT: usize = 7;
 
 // The number of the partition that holds a byte address, or COUNT where none does.
+#[tactic(auto, using(crate::proofs::Ranges::map1_ranges), unfolding(crate::specs::Map::partition, crate::specs::Map::limit, crate::specs::Map1::map1))]
 pub fn number_at(address: usize) -> usize
     ensures { result ≡ number_at map1 address }
 {

@@ -273,6 +273,7 @@ impl LifeCycle {
 pub const COUNT: usize = 11;
 
 // The number of the partition that holds a byte address, or COUNT where none does.
+#[tactic(auto, using(crate::proofs::Ranges::map2_ranges), unfolding(crate::specs::Map::partition, crate::specs::Map::limit, crate::specs::Map2::map2))]
 pub fn number_at(address: usize) -> usize
     ensures { result ≡ number_at map2 address }
 {
