@@ -282,6 +282,7 @@ module _ (map : Map) (fits : fit map ≡ true) where
   life-cycle-partition = last-partition life-cycle-last
 
   -- the 24 counter words and the 20 state words
-  pub life-cycle-word : {j : ℕ} → (partition map (number_of_kind map LifeCycle)).start / 2 ≤ j → j < (partition map (number_of_kind map LifeCycle)).start / 2 + 44
+  pub life-cycle-word : {j : ℕ} → (partition map (number_of_kind map LifeCycle)).start / 2 ≤ j
+      → j < (partition map (number_of_kind map LifeCycle)).start / 2 + 44
       → number_at map (2 * j) ≡ number_of_kind map LifeCycle
   life-cycle-word l u = let p = life-cycle-partition in partition-word (omega (arith, life-cycle-last)) l (omega (arith, p.words))

@@ -20,7 +20,9 @@ words-found : (g : After-granule_size-size) → let a = g.args.address in let si
 words-found g = let w = size-words _ _ _ (sym g.granule_size-size.ensures) in (sym w.0, sym w.1)
 
 pub returns-then-size-eq0 : goal.returns-then-size-eq0
-returns-then-size-eq0 c = let w = words-found (goal.at.returns-then-size-eq0 c).After-granule_size-size in (sym (mul-zero _) ∙ (rw c.if-size-eq0.true at w.0), rw c.if-size-eq0.true at w.1)
+returns-then-size-eq0 c =
+    let w = words-found (goal.at.returns-then-size-eq0 c).After-granule_size-size in
+    (sym (mul-zero _) ∙ (rw c.if-size-eq0.true at w.0), rw c.if-size-eq0.true at w.1)
 
 pub returns-else-size-eq0 : goal.returns-else-size-eq0
 returns-else-size-eq0 c = words-found (goal.at.returns-else-size-eq0 c).After-granule_size-size
