@@ -60,7 +60,8 @@ module _ (constants : List ℕ) (valid : valid_constants constants ≡ true) whe
 
   -- ---- as programming
 
-  pub stroke-done : (c : List ℕ) (at n : ℕ) → part_at c at 24 ≡ counter_words constants n → program_answer KeepBits c at (counter_words constants (suc n)) ≡ Done
+  pub stroke-done : (c : List ℕ) (at n : ℕ) → part_at c at 24 ≡ counter_words constants n
+      → program_answer KeepBits c at (counter_words constants (suc n)) ≡ Done
   stroke-done c at n e =
       covering 24 c _ _ at (counter-length constants (suc n)) e
       (λ i h. rw (counter-at constants n i h, counter-at constants (suc n) i h) (stroke-keeps n i h))

@@ -28,12 +28,14 @@ module _ (t : After-same_words) where
 pub returns-then-count-s : goal.returns-then-count-s
 returns-then-count-s c =
     let n = c.args.count in
-    sym (ap (λ (o : Option ℕ). life_cycle_of o (some n)) (found (goal.at.returns-then-count-s c).After-same_words c.if-same_words.true) ∙ blank-invalid c.loop-s.s n c.if-count-s.true)
+    let here = found (goal.at.returns-then-count-s c).After-same_words c.if-same_words.true in
+    sym (ap (λ (o : Option ℕ). life_cycle_of o (some n)) here ∙ blank-invalid c.loop-s.s n c.if-count-s.true)
 
 pub returns-then-same_words : goal.returns-then-same_words
 returns-then-same_words c =
     let n = c.args.count in
-    sym (ap (λ (o : Option ℕ). life_cycle_of o (some n)) (found (goal.at.returns-then-same_words c).After-same_words c.if-same_words.true) ∙ both-valid c.loop-s.s n c.if-count-s.false)
+    let here = found (goal.at.returns-then-same_words c).After-same_words c.if-same_words.true in
+    sym (ap (λ (o : Option ℕ). life_cycle_of o (some n)) here ∙ both-valid c.loop-s.s n c.if-count-s.false)
 
 pub loop-s-preserved : goal.loop-s-preserved
 loop-s-preserved c = searched-next c.loop-s.invariant (omega arith) (sym (same (goal.at.loop-s-preserved c).After-same_words) ∙ c.if-same_words.false)
