@@ -66,7 +66,8 @@ module _ (s : Session) where
       let ws = state_words m.lent.constants target in
       let n = machine_of l s in
       by_answer (program_answer life_cycle_rule l.cells at ws)
-      (λ e. program-done n life_cycle_rule at ws to_dead (say (Done 0) to_inert) e ∙ now-inert (with_cells (program_cells life_cycle_rule l.cells at ws) l) (Done 0)
+      (λ e. program-done n life_cycle_rule at ws to_dead (say (Done 0) to_inert) e ∙ now-inert (with_cells (program_cells life_cycle_rule l.cells at ws) l)
+      (Done 0)
       ∙ rw e)
       (λ i e. program-refused n life_cycle_rule at ws to_dead (say (Done 0) to_inert) i e ∙ now-dead l i
       ∙ rw (e, stored_refused life_cycle_rule l.cells ws at i e))

@@ -49,7 +49,8 @@ halves-differ a b c d l m e =
 
 -- a token that is stored needs its partition sensed locked
 module _ (map : Map) (s : Session) (l : Lent) (token : Token) (given : ℕ) where
-  pub not-locked : sensed_locked s (number_of_kind map (token_kind token)) ≡ false → permit_of l (locked_token primitives map s token given) ≡ Refused TokenNotLocked
+  pub not-locked : sensed_locked s (number_of_kind map (token_kind token)) ≡ false → permit_of l (locked_token primitives map s token given) ≡ Refused
+      TokenNotLocked
   unfolding permit_of locked_token
   not-locked e = ap (permit_of l) (if-true _ _ (ap not e))
 
