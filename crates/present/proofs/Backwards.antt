@@ -17,7 +17,8 @@ module _ {key block : ℕ} where
   unfolding decrypt_block
   held_first {k = k} e m = record { from = bit_xor block k; moved = sym m; leads = ap (λ (x : ℕ). block_before key (bit_xor block x) 31) e }
 
-  pub held_next : {s t u i : ℕ} → Held key block s (suc i) → t ≡ permute_back (substitute s_box_inverse s) → u ≡ permute_back (round_key (key_after key (suc i)))
+  pub held_next : {s t u i : ℕ} → Held key block s (suc i) → t ≡ permute_back (substitute s_box_inverse s)
+      → u ≡ permute_back (round_key (key_after key (suc i)))
       → Held key block (bit_xor t u) i
   unfolding block_before
   held_next {i = i} h et eu =

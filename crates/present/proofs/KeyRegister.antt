@@ -63,7 +63,8 @@ unfolding rotate_left61
 rotate-halves a b l =
     let k : ℕ = a * 2 ^ 64 + b in
     let above : k / 2 ^ 67 ≡ a / 8 = sym (shr-shr k 64 3) ∙ ap (λ (x : ℕ). x / 8) (high a 64 l) in
-    let below : k % 2 ^ 67 ≡ rotated_key a b * 8 + b % 8 = mod-pow-add k 3 64 ∙ ap₂ (λ (x y : ℕ). x % 8 * 2 ^ 64 + y) (high a 64 l) (low a 64 l) ∙ regroup a b in
+    let below : k % 2 ^ 67 ≡ rotated_key a b * 8 + b % 8 =
+    mod-pow-add k 3 64 ∙ ap₂ (λ (x y : ℕ). x % 8 * 2 ^ 64 + y) (high a 64 l) (low a 64 l) ∙ regroup a b in
     ap₂ (λ (x y : ℕ). x * 2 ^ 61 + y) below above ∙ shift (rotated_key a b) (b % 8) (a / 8)
   where
     regroup : (a b : ℕ) → a % 8 * 2 ^ 64 + b ≡ (a % 8 * 2 ^ 61 + b / 8) * 8 + b % 8
