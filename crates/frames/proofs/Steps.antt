@@ -1,4 +1,4 @@
--- Laws of a step, over what its code found. The idea: the reading decides which clause of `stepBy` is due.
+-- Laws of a step, over what its code found. The idea: the reading decides which clause of `step_by` is due.
 use Prim.Native.Nat.{ℕ, ◌≤◌}
 use mathlib.Core.Path.{◌≡◌, refl, ap, ap₂, ◌∙◌}
 use mathlib.Core.List.{List}

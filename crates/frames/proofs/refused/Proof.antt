@@ -1,4 +1,4 @@
--- Each arm is `refusedOf` at its reading.
+-- Each arm is `refused_of` at its reading.
 use borrow.Author.Rules.{rules}
 use mathlib.Core.Path.{◌≡◌, sym, ap}
 use Rattle.script.specs.declared.Reading.{Reading}

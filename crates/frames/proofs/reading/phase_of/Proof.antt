@@ -1,4 +1,4 @@
--- Each arm is `phaseOf` at its number.
+-- Each arm is `phase_of` at its number.
 use mathlib.Core.Path.{sym, ap}
 use borrow.Author.Tests.{ne_eqb}
 use Rattle.basics.specs.Choice.{if◌then◌else◌}

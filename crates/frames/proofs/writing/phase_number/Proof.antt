@@ -1,4 +1,4 @@
--- Each arm is `phaseNumber` at its phase.
+-- Each arm is `phase_number` at its phase.
 use borrow.Author.Rules.{rules}
 use mathlib.Core.Path.{sym, ap, ◌∙◌}
 use Rattle.frames.specs.Frames.{phase_number}
