@@ -58,7 +58,7 @@ module _ (prims : Primitives) (map : Map) (m : Machine) where
       act-gives prims map m
       (record { refused = λ r. tt; done = λ q value. tt; not_blank = λ q cell. tt; locked = λ n e. tt; used = λ e. tt; spent = λ e. dead-with-four-ends })
 
-  -- a phase that is Ready becomes Dead by the effect `toDead`
+  -- a phase that is Ready becomes Dead by the effect `to_dead`
   effect-dead : (answer : Answer) (effect : Effect) (s : Session) {reason : Reason} → DeadWithFour answer effect → is_ready s.phase ≡ true
       → (effect_on effect s).phase ≡ Dead reason → code_of answer ≡ reason_code reason
   unfolding effect_on is_ready dead-code

@@ -50,7 +50,7 @@ locking digest = not (eqb digest 0)
 unfoldable pub sensed_locked : Session → ℕ → Bool
 sensed_locked s number = locking (sensed_at s number)
 
--- the read lock of a partition by its number; it counts only where the partition's kind has a read lock (`readAct`)
+-- the read lock of a partition by its number; it counts only where the partition's kind has a read lock (`read_act`)
 unfoldable pub read_locked : Session → ℕ → Bool
 read_locked s number = get_or s.locks number false
 

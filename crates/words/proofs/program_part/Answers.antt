@@ -1,4 +1,4 @@
--- Where the test is done the part becomes the value, which is all that `programCells` stores; where a word refuses, neither changes it.
+-- Where the test is done the part becomes the value, which is all that `program_cells` stores; where a word refuses, neither changes it.
 use mathlib.Core.Path.{sym, ◌∙◌}
 use Rattle.words.proofs.Programming.{stored-done, stored_refused}
 use Rattle.words.proofs.Lent.{sets-whole}
