@@ -26,8 +26,8 @@ use Rattle.model.specs.declared.Outcome.{Outcome}
 use Rattle.model.specs.Lent.{Lent, Machine, with_copy}
 use Rattle.model.specs.Session.{unlocked}
 use Rattle.model.specs.Commands.{counter_at, state_at}
-use Rattle.model.specs.PowerUp.{digests, PowerUpEnd, fails, succeeds, life_cycle_end, end_of, verdict_of, life_cycle_in, copy_word, powered_copy, powered_session}
-use Rattle.model.specs.PowerUp.{powered_answer, power_up_end}
+use Rattle.model.specs.PowerUp.{digests, PowerUpEnd, fails, succeeds, life_cycle_end, end_of, verdict_of, life_cycle_in, copy_word, powered_copy}
+use Rattle.model.specs.PowerUp.{powered_session, powered_answer, power_up_end}
 use Rattle.model.specs.Step.{obey, power_up}
 use Rattle.chip.proofs.LifeCyclePlace.{counter-words-end, state-words-end}
 use Rattle.chip.specs.Chip.{primitives, result_of}
@@ -36,8 +36,8 @@ use Rattle.power_up.specs.PowerUpEnd.{verdict_in, powered_result, dead_outcome}
 
 -- ---- the life cycle words stand last
 
-pub life-cycle-slices : (map : Map) → fit map ≡ true → (l : Lent) {counter state end : ℕ} → counter ≡ counter_at map → state ≡ state_at map → end ≡ limit map / 2
-    → length l.cells ≡ limit map / 2
+pub life-cycle-slices : (map : Map) → fit map ≡ true → (l : Lent) {counter state end : ℕ}
+    → counter ≡ counter_at map → state ≡ state_at map → end ≡ limit map / 2 → length l.cells ≡ limit map / 2
     → decoded l.constants (take (state - counter) (drop counter l.cells)) (take (end - state) (drop state l.cells)) ≡ life_cycle_in map l
 unfolding life_cycle_in
 life-cycle-slices map fits l {counter} {state} {end} c s e n =

@@ -109,7 +109,8 @@ module _ (prims : Primitives) (map : Map) (fits : fit map ≡ true) (constants c
 -- ---- a block is stored
 
 pub stored-block : (f : ℕ → ℕ) (xs ws : List ℕ) (at : ℕ) → at + 4 ≤ length xs → ws ≡ listed f at 4 → ((j : ℕ) → j < at → get_or xs j 0 ≡ f j)
-    → (j : ℕ) → j < at + 4 → get_or (set (set (set (set xs at (get_or ws 0 0)) (at + 1) (get_or ws 1 0)) (at + 2) (get_or ws 2 0)) (at + 3) (get_or ws 3 0)) j 0 ≡ f j
+    → (j : ℕ) → j < at + 4
+    → get_or (set (set (set (set xs at (get_or ws 0 0)) (at + 1) (get_or ws 1 0)) (at + 2) (get_or ws 2 0)) (at + 3) (get_or ws 3 0)) j 0 ≡ f j
 unfolding listed
 stored-block f xs ws at h e known =
     let one : at + 1 ≡ suc at = omega arith in
