@@ -31,7 +31,8 @@ use Rattle.transcript.proofs.Printed.{what-is-printed}
 
 -- the model, the reader and the lines, under one name
 unfoldable all : Unit {0}
-unfolding everything sum map2 map_of map_for pairs file_words unknown body_length little_endian_at command_at next_at refused_kind lines_from lines_of digit_byte digits
+unfolding everything sum map2 map_of map_for pairs file_words unknown body_length little_endian_at command_at next_at refused_kind lines_from lines_of
+    digit_byte digits
     line_of decimal end_line printed transcript commands_from refusal_from lines_for
 all = tt
 

@@ -1,6 +1,6 @@
 -- What is printed. The idea: the lines are the answers to the script's commands, so that demand 3, which makes the answers of two chips equal, makes their
 -- lines equal; both images have one length, so that both chips have one map.
-use Prim.Native.Nat.{ℕ, suc, ◌+◌}
+use Prim.Native.Nat.{ℕ, suc}
 use mathlib.Core.Path.{◌≡◌, refl, sym, ap, ◌∙◌}
 use mathlib.Core.Bool.{true}
 use mathlib.Core.List.{List, [], ◌∷◌, ◌++◌}

@@ -2,8 +2,6 @@
 use Prim.Native.Nat.{ℕ}
 use mathlib.Core.Path.{◌≡◌, refl}
 use mathlib.Core.List.{List}
-use mathlib.Core.Logic.{⊎_elim}
-use native.Mathlib.Omega.{arith}
 use Rattle.partitions.specs.Map.{Map}
 use Rattle.model.specs.declared.Session.{Session}
 use Rattle.model.specs.declared.Command.{Command}
@@ -15,14 +13,14 @@ use Rattle.script.specs.declared.Reading.{Reading}
 use Rattle.script.specs.declared.Reading.TheVariants.{Record, End, Refused}
 use Rattle.script.specs.Records.{kind_of, next_at}
 use Rattle.script.specs.Lines.{line_of}
-use Rattle.script.proofs.Records.{Other}
 use Rattle.transcript.specs.declared.Continuation.TheVariants.{Continues}
 use Rattle.transcript.specs.Runs.{Run, run_by, run_of, run_with, stopped_of}
 
-pub run-stopped : (map : Map) (n : Reading) (script : List ℕ) (place : ℕ) (l : Lent) (session : Session) → Other n
+pub run-stopped : (map : Map) (n : Reading) (script : List ℕ) (place : ℕ) (l : Lent) (session : Session)
+    → ((command : Command) (next : ℕ) → n ≡ Record command next → ⊥)
     → run_with l (stopped_of n script place session) ≡ run_by map n script place (machine_of l session)
 unfolding run_by
-run-stopped map (Record command next) script place l session h = absurd (⊎_elim (λ w. omega arith) (λ w. omega arith) h)
+run-stopped map (Record command next) script place l session h = absurd (h command next refl)
 run-stopped map End script place l session h = refl
 run-stopped map (Refused refusal at) script place l session h = refl
 

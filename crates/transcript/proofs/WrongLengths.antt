@@ -1,5 +1,5 @@
 -- Files of a wrong length. The idea: every step refuses with 0x10 and leaves the machine, so that the answers are known from the commands alone.
-use Prim.Native.Nat.{ℕ, ◌+◌, ◌*◌, ◌/◌, ◌%◌, ◌<◌}
+use Prim.Native.Nat.{ℕ, ◌*◌, ◌/◌, ◌%◌, ◌<◌}
 use mathlib.Core.Path.{◌≡◌, refl, sym, ap, ◌∙◌}
 use mathlib.Core.Bool.{true, false, not, ◌&&◌}
 use mathlib.Core.List.{List, [], ◌∷◌, ◌++◌, append-nil}
@@ -87,7 +87,8 @@ answers-wrong map m wrong (x ∷ l) =
     rw (step-wrong map x m wrong, machine_after, answer_to)
     (ap (λ (ls : List Line). record { kind = kind_of x; code = 0x10; value = 0 } ∷ ls) (answers-wrong map m wrong l))
 
-lines-wrong : (script image constants : List ℕ) → Wrong image constants → lines_of script image constants ≡ wrong_lines (commands_of script) ++ refusal_of script
+lines-wrong : (script image constants : List ℕ) → Wrong image constants → lines_of script image constants ≡ wrong_lines (commands_of script) ++ refusal_of
+    script
 lines-wrong script image constants h =
     lines-whole script image constants
     ∙ ap (λ (ls : List Line). ls ++ refusal_of script) (answers-wrong (map_used image) (chip_of image constants) h (commands_of script))
