@@ -4,7 +4,8 @@
 usage: tools/respell.py        at the top of the repository, once, right after /opt/rattle/port/port.py and before anything is committed
 
 A definition, a field or a lemma is written in snake case: `stateAfter` becomes `state_after`, `sBox-lt` becomes `s_box-lt`. A dash that joins two names stays.
-port.py has turned some names that a library spells alike: where a lemma `part-at` and a definition `partAt` then had one name, the lemma gets its dash back. The
+The operator of choice has the brackets of the library's own, `if b then x else y`, which `rt ci` refuses for another definition: it becomes
+`when b then x else y`. port.py has turned some names that a library spells alike: where a lemma `part-at` and a definition `partAt` then had one name, the lemma gets its dash back. The
 commit that is checked out (HEAD) tells which was which. Names of functions, types, variants and modules, strings and comments of code stay as they are.
 """
 
@@ -19,6 +20,8 @@ DECLARED = re.compile(
 # what a name is made of, and what it is not
 TOKEN = re.compile(r"--[^\n]*|\"(?:[^\"\\]|\\.)*\"|[^\s(){}.;,@\"«»\[\]:`]+")
 CAMEL = re.compile(r"(?<=[a-z0-9])([A-Z])")
+# the operator of choice: the word that opens it, and its name
+CHOICE = {"if": "when", "if◌then◌else◌": "when◌then◌else◌"}
 # fields of records of definitions that stand behind a name which no line declares alone
 MORE = ["endCases", "readLock"]
 
@@ -111,7 +114,7 @@ def main():
                 pairs[snake(camel)] = (dashed, camel)
     for path in sources:
         text = read(path)
-        new = turned(restored(path, text, pairs), table)
+        new = turned(restored(path, text, pairs), table | CHOICE)
         if new != text:
             with open(path, "w", encoding="utf-8") as f:
                 f.write(new)

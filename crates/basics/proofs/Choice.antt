@@ -5,7 +5,7 @@ use mathlib.Core.Bool.{Bool, true, false, ◌&&◌, ◌||◌}
 use Prim.Native.Nat.{ℕ}
 use native.Mathlib.Omega.{arith}
 use lib.Dec.{T}
-use Rattle.basics.specs.Choice.{if◌then◌else◌}
+use Rattle.basics.specs.Choice.{when◌then◌else◌}
 
 -- a test is true or false, and each case may use which
 pub by_cases {ℓ} : {X : Type ℓ} (b : Bool) → (b ≡ true → X) → (b ≡ false → X) → X
@@ -73,20 +73,20 @@ pub or-none : (a b : Bool) → a ≡ false → b ≡ false → (a || b) ≡ fals
 or-none true b e f = e
 or-none false b e f = f
 
-pub if-true {ℓ} : {A : Type ℓ} {b : Bool} (x y : A) → b ≡ true → (if b then x else y) ≡ x
-unfolding if◌then◌else◌
+pub if-true {ℓ} : {A : Type ℓ} {b : Bool} (x y : A) → b ≡ true → (when b then x else y) ≡ x
+unfolding when◌then◌else◌
 if-true x y e = rw e
 
-pub if-false {ℓ} : {A : Type ℓ} {b : Bool} (x y : A) → b ≡ false → (if b then x else y) ≡ y
-unfolding if◌then◌else◌
+pub if-false {ℓ} : {A : Type ℓ} {b : Bool} (x y : A) → b ≡ false → (when b then x else y) ≡ y
+unfolding when◌then◌else◌
 if-false x y e = rw e
 
-pub if-same {ℓ} : {A : Type ℓ} {b : Bool} {x y x' y' : A} → (b ≡ true → x ≡ x') → (b ≡ false → y ≡ y') → (if b then x else y) ≡ (if b then x' else y')
+pub if-same {ℓ} : {A : Type ℓ} {b : Bool} {x y x' y' : A} → (b ≡ true → x ≡ x') → (b ≡ false → y ≡ y') → (when b then x else y) ≡ (when b then x' else y')
 if-same {b = b} {x = x} {y = y} {x' = x'} {y' = y'} f g =
     by_cases b (λ t. if-true x y t ∙ f t ∙ sym (if-true x' y' t)) (λ t. if-false x y t ∙ g t ∙ sym (if-false x' y' t))
 
 -- what holds of both branches holds of the choice
-pub if-both {ℓ κ} : {A : Type ℓ} (P : A → Type κ) (b : Bool) (x y : A) → (b ≡ true → P x) → (b ≡ false → P y) → P (if b then x else y)
-unfolding if◌then◌else◌
+pub if-both {ℓ κ} : {A : Type ℓ} (P : A → Type κ) (b : Bool) (x y : A) → (b ≡ true → P x) → (b ≡ false → P y) → P (when b then x else y)
+unfolding when◌then◌else◌
 if-both P true x y f g = f refl
 if-both P false x y f g = g refl

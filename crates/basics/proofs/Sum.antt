@@ -5,7 +5,7 @@ use Prim.Native.Nat.{ℕ, zero, suc, ◌+◌, ◌≤◌, ◌<◌}
 use native.Mathlib.Omega.{arith}
 use lib.Dec.{eqb}
 use borrow.Author.Tests.{eqb-true, eqb-false, eq-eqb, ne_eqb}
-use Rattle.basics.specs.Choice.{if◌then◌else◌}
+use Rattle.basics.specs.Choice.{when◌then◌else◌}
 use Rattle.basics.specs.Range.{sum}
 use Rattle.basics.proofs.Choice.{by_cases, if-true, if-false}
 
@@ -37,7 +37,7 @@ sum-swap (suc m) n f = ap (λ (x : ℕ). sum n (f m) + x) (sum-swap m n f) ∙ s
 
 -- a term at one place alone
 abbrev only_at : ℕ → (ℕ → ℕ) → ℕ → ℕ
-only_at k f i = if eqb i k then f i else 0
+only_at k f i = when eqb i k then f i else 0
 
 sum-only : (n k : ℕ) (f : ℕ → ℕ) → k < n → sum n (only_at k f) ≡ f k
 unfolding sum

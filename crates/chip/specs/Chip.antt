@@ -1,6 +1,6 @@
 -- The chip that the code is proved against: the model at PRESENT, the digest and the hash of tokens, over any map. And what a command promises.
 use Rattle.std.specs.Prelude.{ℕ, ◌/◌, ◌||◌, List, ltb, length, ◌≡◌}
-use Rattle.basics.specs.Choice.{if◌then◌else◌}
+use Rattle.basics.specs.Choice.{when◌then◌else◌}
 use Rattle.present.specs.Present.{encrypt_block, decrypt_block}
 use Rattle.digest.specs.Digest.{digest_words}
 use Rattle.token_hash.specs.TokenHash.{token_hash}
@@ -39,4 +39,4 @@ Executes map x session before after outcome = result_of after outcome ≡ result
 -- the digest of a partition's data words, 0 where they do not lie in the cells
 unfoldable pub digest_within : List ℕ → List ℕ → Partition → ℕ
 digest_within cells constants p =
-    if ltb (p.digest / 2) (p.start / 2) || ltb (length cells) (p.digest / 2) then 0 else computed_digest primitives constants p cells
+    when ltb (p.digest / 2) (p.start / 2) || ltb (length cells) (p.digest / 2) then 0 else computed_digest primitives constants p cells

@@ -1,6 +1,6 @@
 -- SHAKE128 (FIPS 202, section 6.2) and cSHAKE128 (NIST SP 800-185, section 3.3), over strings of bytes, with output lengths in bytes.
 use Rattle.std.specs.Prelude.{ℕ, ◌&&◌, List, ◌++◌, eqb, length}
-use Rattle.basics.specs.Choice.{if◌then◌else◌}
+use Rattle.basics.specs.Choice.{when◌then◌else◌}
 use Rattle.sponge.specs.Sponge.{sponge}
 use Rattle.cshake.specs.Encoding.{encode_string, bytepad}
 
@@ -13,5 +13,5 @@ shake128 message d = sponge 168 0x1F message d
 -- and the first bit of the padding make 0x04
 unfoldable pub c_shake128 : List ℕ → ℕ → List ℕ → List ℕ → List ℕ
 c_shake128 x l n s =
-    if eqb (length n) 0 && eqb (length s) 0 then shake128 x l
+    when eqb (length n) 0 && eqb (length s) 0 then shake128 x l
     else sponge 168 0x04 (bytepad (encode_string n ++ encode_string s) 168 ++ x) l

@@ -1,13 +1,13 @@
 -- The string encodings of NIST SP 800-185 (section 2.3), over strings of bytes.
 use Rattle.std.specs.Prelude.{ℕ, zero, suc, ◌*◌, ◌-◌, ◌%◌, ◌^◌, Bool, List, ◌∷◌, ◌++◌, ltb, length}
-use Rattle.basics.specs.Choice.{if◌then◌else◌}
+use Rattle.basics.specs.Choice.{when◌then◌else◌}
 use Rattle.basics.specs.Range.{listed}
 use Rattle.basics.specs.Digits.{digit}
 
 -- the smallest number from i on that passes the test; i + n where the n numbers before it fail
 unfoldable pub smallest : (ℕ → Bool) → ℕ → ℕ → ℕ
 smallest test i zero = i
-smallest test i (suc n) = if test i then i else smallest test (suc i) n
+smallest test i (suc n) = when test i then i else smallest test (suc i) n
 
 -- "Let n be the smallest positive integer for which 2^(8n) > x." It is at most x + 1.
 unfoldable pub byte_count : ℕ → ℕ

@@ -4,7 +4,7 @@ use mathlib.Core.Path.{◌≡◌, refl}
 use mathlib.Core.Bool.{Bool, ◌||◌}
 use Prim.Native.Nat.{ℕ, ◌/◌}
 use lib.Dec.{leb}
-use Rattle.basics.specs.Choice.{if◌then◌else◌}
+use Rattle.basics.specs.Choice.{when◌then◌else◌}
 use Rattle.words.specs.Words.{words_of}
 use Rattle.partitions.specs.declared.Partition.{Partition}
 use Rattle.partitions.specs.Map.{Map, number_at, partition_at, limit, first_word}
@@ -23,7 +23,7 @@ use Rattle.chip.specs.Chip.{primitives}
 pub record Decided (map : Map) (x : Command) (m : Machine) (a : ℕ) (denied : ℕ → Partition → Bool) (go : Partition → Act) : Type 0 where
   pub acts : not_power_up x
   pub decides : command_act primitives map m x
-      ≡ (if leb (limit map) a || denied (number_at map a) (partition_at map a) then refuse Denied else go (partition_at map a))
+      ≡ (when leb (limit map) a || denied (number_at map a) (partition_at map a) then refuse Denied else go (partition_at map a))
 
 -- the digest that a digest command programs
 abbrev pub digest_now : Machine → Partition → ℕ

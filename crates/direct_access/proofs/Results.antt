@@ -8,7 +8,7 @@ use Prim.Native.Nat.{ℕ, ◌≤◌}
 use native.Mathlib.Omega.{arith}
 use lib.Dec.{leb}
 use borrow.Author.Tests.{le-leb, lt-leb}
-use Rattle.basics.specs.Choice.{if◌then◌else◌}
+use Rattle.basics.specs.Choice.{when◌then◌else◌}
 use Rattle.basics.proofs.Choice.{if-true, if-false, or_right, or-none}
 use Rattle.words.specs.declared.Rule.{Rule}
 use Rattle.words.specs.Programming.{program_answer, program_cells}
@@ -58,7 +58,7 @@ module _ {map : Map} {x : Command} {m : Machine} {a : ℕ} {denies : ℕ → Par
 
   -- the act that is decided
   decided : {t : Act} → admitting map m ≡ none
-      → (if leb (limit map) a || denies (number_at map a) (partition_at map a) then refuse Denied else go (partition_at map a)) ≡ t
+      → (when leb (limit map) a || denies (number_at map a) (partition_at map a) then refuse Denied else go (partition_at map a)) ≡ t
       → result_for map x m ≡ comes_to t m
   decided e f = admitted-result map x m d.acts e ∙ ap (λ (t : Act). comes_to t m) (d.decides ∙ f)
 

@@ -1,7 +1,7 @@
 -- The step mappings (FIPS 202, section 3.2), each by its bits. Where the standard subtracts before it reduces, 5 or 64 is added first.
 use Rattle.std.specs.Prelude.{ℕ, zero, suc, ◌+◌, ◌*◌, ◌-◌, ◌/◌, ◌%◌, ◌^◌, ◌&&◌, ◌||◌, List, eqb}
 use Rattle.std.specs.Int.Bits.{bit_xor}
-use Rattle.basics.specs.Choice.{if◌then◌else◌}
+use Rattle.basics.specs.Choice.{when◌then◌else◌}
 use Rattle.basics.specs.Range.{sum}
 use Rattle.basics.specs.Digits.{bit, number}
 use Rattle.keccak.specs.State.{bit_at, state_of}
@@ -32,7 +32,7 @@ rho_position (suc t) = ((rho_position t).1, (2 * (rho_position t).0 + 3 * (rho_p
 
 -- "For t from 0 to 23: .. (t + 1)(t + 2)/2": the offset of the one step at the lane; lane (0, 0), where no step is, stays
 unfoldable pub offset : ℕ → ℕ → ℕ
-offset x y = sum 24 (λ t. if eqb (rho_position t).0 x && eqb (rho_position t).1 y then (t + 1) * (t + 2) / 2 else 0)
+offset x y = sum 24 (λ t. when eqb (rho_position t).0 x && eqb (rho_position t).1 y then (t + 1) * (t + 2) / 2 else 0)
 
 -- "A'[x, y, z] = A[x, y, (z - (t + 1)(t + 2)/2) mod w]"
 abbrev pub rho_bit : List ℕ → ℕ → ℕ → ℕ → ℕ
@@ -61,7 +61,7 @@ chi a = state_of (chi_bit a)
 
 -- one step of the register R of eight bits, held as a number with R[0] lowest: "R = 0 || R", R[8] is added to R[0], R[4], R[5] and R[6], and "R = Trunc8[R]"
 unfoldable pub register_step : ℕ → ℕ
-register_step r = number 2 8 (λ i. if eqb i 0 || eqb i 4 || eqb i 5 || eqb i 6 then bit_xor (bit (2 * r) i) (bit (2 * r) 8) else bit (2 * r) i)
+register_step r = number 2 8 (λ i. when eqb i 0 || eqb i 4 || eqb i 5 || eqb i 6 then bit_xor (bit (2 * r) i) (bit (2 * r) 8) else bit (2 * r) i)
 
 -- the register after t steps: "R = 10000000" at first
 unfoldable pub register : ℕ → ℕ
@@ -78,7 +78,7 @@ round_constant i = sum 7 (λ j. rc (j + 7 * i) * 2 ^ (2 ^ j - 1))
 
 -- "For all z such that 0 ≤ z < w, let A'[0, 0, z] = A'[0, 0, z] ⊕ RC[z]"
 abbrev pub iota_bit : ℕ → List ℕ → ℕ → ℕ → ℕ → ℕ
-iota_bit i a x y z = if eqb x 0 && eqb y 0 then bit_xor (bit_at a x y z) (bit (round_constant i) z) else bit_at a x y z
+iota_bit i a x y z = when eqb x 0 && eqb y 0 then bit_xor (bit_at a x y z) (bit (round_constant i) z) else bit_at a x y z
 
 unfoldable pub iota : ℕ → List ℕ → List ℕ
 iota i a = state_of (iota_bit i a)

@@ -9,7 +9,7 @@ use lib.Bits.{or_zero_l}
 use lib.Dec.{eqb, ltb}
 use lib.ListN.{length, get_or}
 use borrow.Author.Tests.{eqb-false, ne_eqb, ltb-true, lt-ltb}
-use Rattle.basics.specs.Choice.{if◌then◌else◌}
+use Rattle.basics.specs.Choice.{when◌then◌else◌}
 use Rattle.basics.proofs.Choice.{true-not-false, if-false}
 use Rattle.words.specs.declared.Programmed.TheVariants.{Done}
 use Rattle.words.specs.Words.{part_at}
@@ -27,8 +27,8 @@ use Rattle.life_cycle.proofs.Encoding.{coded, counter-length, counter-at, state-
 use Rattle.life_cycle.proofs.Table.{allowed-ends, marks-grow}
 
 kept : {low up : ℕ} → Pair low up → (blank before after : Bool) → (blank ≡ false → before ≡ true → after ≡ true)
-    → loses_bit (if blank then 0 else if before then up else low) (if after then up else low) ≡ false
-unfolding if◌then◌else◌
+    → loses_bit (when blank then 0 else when before then up else low) (when after then up else low) ≡ false
+unfolding when◌then◌else◌
 kept p true before after h = or-keeps 0 _ (or_zero_l _)
 kept {up = up} p false true true h = loses-none up
 kept p false true false h = absurd (true-not-false (h refl refl) refl)
@@ -37,7 +37,7 @@ kept {low} p false false false h = loses-none low
 
 coded-keeps : (marks : ℕ → ℕ → Bool) (low up : ℕ → ℕ) (m n i : ℕ) → Pair (low i) (up i) → (n ≡ 0 → ⊥)
     → (eqb m 0 ≡ false → marks m i ≡ true → marks n i ≡ true) → loses_bit (coded marks low up m i) (coded marks low up n i) ≡ false
-coded-keeps marks low up m n i p z h = rw (if-false 0 (if marks n i then up i else low i) (ne_eqb n 0 z)) (kept p (eqb m 0) (marks m i) (marks n i) h)
+coded-keeps marks low up m n i p z h = rw (if-false 0 (when marks n i then up i else low i) (ne_eqb n 0 z)) (kept p (eqb m 0) (marks m i) (marks n i) h)
 
 -- words that cover those of a part are programmed there
 covering : (size : ℕ) (c ws vs : List ℕ) (at : ℕ) → length vs ≡ size → part_at c at size ≡ ws

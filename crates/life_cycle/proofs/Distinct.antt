@@ -8,7 +8,7 @@ use native.Mathlib.Omega.{arith}
 use lib.Dec.{T, eqb, ltb}
 use lib.ListN.{get_or}
 use borrow.Author.Tests.{eqb-true, eq-eqb, ne_eqb}
-use Rattle.basics.specs.Choice.{if◌then◌else◌}
+use Rattle.basics.specs.Choice.{when◌then◌else◌}
 use Rattle.basics.specs.Range.{all_below, any_below}
 use Rattle.basics.proofs.Choice.{to-T}
 use Rattle.basics.proofs.Range.{all-at, none_below}
@@ -24,11 +24,11 @@ level marks = coded marks (λ i. 1) (λ i. 2)
 
 -- the level that a word shows
 shown : ℕ → ℕ → ℕ
-shown low w = if eqb w 0 then 0 else if eqb w low then 1 else 2
+shown low w = when eqb w 0 then 0 else when eqb w low then 1 else 2
 
 shows : {low up : ℕ} → Pair low up → low < 65536 → (blank mark : Bool)
-    → shown low (if blank then 0 else if mark then up else low) ≡ (if blank then 0 else if mark then 2 else 1)
-unfolding if◌then◌else◌ shown
+    → shown low (when blank then 0 else when mark then up else low) ≡ (when blank then 0 else when mark then 2 else 1)
+unfolding when◌then◌else◌ shown
 shows p l true mark = refl
 shows {low} {up} p l false true = rw (ne_eqb up 0 (upper-nonzero p l), ne_eqb up low (λ e. p.differs (sym e)))
 shows {low} {up} p l false false = rw (ne_eqb low 0 p.nonzero, eq-eqb low low refl)
@@ -56,11 +56,11 @@ module _ (marks : ℕ → ℕ → Bool) (size count : ℕ) (test : T (all_below 
           ap not (eq-eqb _ _ (sym (at m) ∙ ap (shown (low i)) (same i h) ∙ at n))
 
 counts-told : T (all_below 25 (λ m. all_below 25 (told (λ n i. ltb i n) 24 m)))
-unfolding all_below any_below told apart level if◌then◌else◌
+unfolding all_below any_below told apart level when◌then◌else◌
 counts-told = tt
 
 states-told : T (all_below 21 (λ s. all_below 21 (told has_b 20 s)))
-unfolding all_below any_below told apart level has_b if◌then◌else◌
+unfolding all_below any_below told apart level has_b when◌then◌else◌
 states-told = tt
 
 module _ (constants : List ℕ) (words : Words constants) (valid : valid_constants constants ≡ true) where

@@ -6,7 +6,7 @@ use mathlib.Core.List.{List}
 use Prim.Native.Nat.{ℕ, ◌<◌}
 use lib.Dec.{eqb}
 use lib.ListN.{length, get_or}
-use Rattle.basics.specs.Choice.{if◌then◌else◌}
+use Rattle.basics.specs.Choice.{when◌then◌else◌}
 use Rattle.basics.proofs.Range.{length-listed, listed_at}
 use Rattle.life_cycle.specs.Words.{counter_word, counter_words, state_word, state_words}
 
@@ -28,4 +28,4 @@ state-at constants state i h = listed_at _ 0 20 i h
 
 -- word i of number n, where `up` stands in the words that n marks
 abbrev pub coded : (ℕ → ℕ → Bool) → (ℕ → ℕ) → (ℕ → ℕ) → ℕ → ℕ → ℕ
-coded marks low up n i = if eqb n 0 then 0 else if marks n i then up i else low i
+coded marks low up n i = when eqb n 0 then 0 else when marks n i then up i else low i

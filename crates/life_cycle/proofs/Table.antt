@@ -5,7 +5,7 @@ use Prim.Native.Nat.{ℕ, ◌≤◌, ◌<◌}
 use native.Mathlib.Omega.{arith}
 use lib.Dec.{T, eqb, leb, ltb}
 use borrow.Author.Tests.{eqb-true, leb-true, ltb-true, ne_eqb}
-use Rattle.basics.specs.Choice.{if◌then◌else◌}
+use Rattle.basics.specs.Choice.{when◌then◌else◌}
 use Rattle.basics.specs.Range.{all_below}
 use Rattle.basics.proofs.Choice.{to-T, by_cases, and_left, and_right, and-three, if-false}
 use Rattle.basics.proofs.Range.{all-at}
@@ -29,7 +29,7 @@ unmarks-none : ℕ → ℕ → Bool
 unmarks-none s t = not (allows (table_entry s t)) || grows s t
 
 table-grows : T (all_below 21 (λ s. all_below 21 (unmarks-none s)))
-unfolding all_below unmarks-none allows grows table_entry is_unlocked is_locked is_test test_index has_b if◌then◌else◌
+unfolding all_below unmarks-none allows grows table_entry is_unlocked is_locked is_test test_index has_b when◌then◌else◌
 table-grows = tt
 
 -- ---- the ends, row by row
@@ -82,7 +82,7 @@ module _ (s t : ℕ) where
 
   -- the row applies, or one below it does
   row : {tok : Token} {below : Entry} (b : Bool) (need : Token) → (b ≡ true → Ends s t) → (below ≡ Allowed tok → Ends s t)
-      → (if b then Allowed need else below) ≡ Allowed tok → Ends s t
+      → (when b then Allowed need else below) ≡ Allowed tok → Ends s t
   row b need here rest e = by_cases b here (λ q. rest (sym (if-false _ _ q) ∙ e))
 
   pub allowed-ends : {tok : Token} → table_entry s t ≡ Allowed tok → Ends s t

@@ -1,6 +1,6 @@
 -- The transition table, row by row as document 01 has it, and the token that each row needs.
 use Rattle.std.specs.Prelude.{ℕ, ◌-◌, ◌/◌, ◌%◌, Bool, ◌&&◌, ◌||◌, eqb, leb, ltb}
-use Rattle.basics.specs.Choice.{if◌then◌else◌}
+use Rattle.basics.specs.Choice.{when◌then◌else◌}
 use Rattle.life_cycle.specs.declared.Token.TheVariants.{Nothing, RawUnlock, TestUnlock, TestExit, Rma}
 use Rattle.life_cycle.specs.declared.Entry.{Entry}
 use Rattle.life_cycle.specs.declared.Entry.TheVariants.{Allowed, Forbidden}
@@ -24,11 +24,11 @@ test_index state = (state - 1) / 2
 -- SCRAP (none)." DEV is 16, PROD 17, PROD_END 18, RMA 19 and SCRAP 20.
 unfoldable pub table_entry : ℕ → ℕ → Entry
 table_entry from to =
-    if eqb from 0 && eqb to 1 then Allowed RawUnlock
-    else if is_unlocked from && is_locked to && leb (test_index from) (test_index to) then Allowed Nothing
-    else if is_locked from && is_unlocked to && ltb (test_index from) (test_index to) then Allowed TestUnlock
-    else if is_test from && leb 16 to && leb to 18 then Allowed TestExit
-    else if is_unlocked from && eqb to 19 then Allowed Nothing
-    else if (eqb from 16 || eqb from 17) && eqb to 19 then Allowed Rma
-    else if ltb from 20 && eqb to 20 then Allowed Nothing
+    when eqb from 0 && eqb to 1 then Allowed RawUnlock
+    else when is_unlocked from && is_locked to && leb (test_index from) (test_index to) then Allowed Nothing
+    else when is_locked from && is_unlocked to && ltb (test_index from) (test_index to) then Allowed TestUnlock
+    else when is_test from && leb 16 to && leb to 18 then Allowed TestExit
+    else when is_unlocked from && eqb to 19 then Allowed Nothing
+    else when (eqb from 16 || eqb from 17) && eqb to 19 then Allowed Rma
+    else when ltb from 20 && eqb to 20 then Allowed Nothing
     else Forbidden

@@ -1,7 +1,7 @@
 -- Life cycle words: how a stroke count and a state stand in the 24 counter words and the 20 state words, and how they are decoded.
 use Rattle.std.specs.Prelude.{ℕ, zero, suc, Bool, true, false, not, ◌&&◌, ◌||◌, List, [], ◌∷◌, eqb, leb, ltb}
 use Rattle.std.proofs.Math.Option.{Option, none, some}
-use Rattle.basics.specs.Choice.{if◌then◌else◌}
+use Rattle.basics.specs.Choice.{when◌then◌else◌}
 use Rattle.basics.specs.Range.{listed}
 use Rattle.life_cycle.specs.declared.LifeCycle.{LifeCycle}
 use Rattle.life_cycle.specs.declared.LifeCycle.TheVariants.{Valid, Invalid}
@@ -9,7 +9,7 @@ use Rattle.constants.specs.Constants.{const_a, const_b, const_c, const_d}
 
 -- "Count 0: all 24 counter words zero. Count n: words below n are D, the rest C."
 unfoldable pub counter_word : List ℕ → ℕ → ℕ → ℕ
-counter_word constants n i = if eqb n 0 then 0 else if ltb i n then const_d constants i else const_c constants i
+counter_word constants n i = when eqb n 0 then 0 else when ltb i n then const_d constants i else const_c constants i
 
 unfoldable pub counter_words : List ℕ → ℕ → List ℕ
 counter_words constants n = listed (counter_word constants n) 0 24
@@ -18,16 +18,16 @@ counter_words constants n = listed (counter_word constants n) 0 24
 -- and 18. SCRAP (20): all B."
 unfoldable pub has_b : ℕ → ℕ → Bool
 has_b state i =
-    if leb state 15 then ltb i state
-    else if eqb state 16 then leb i 15
-    else if eqb state 17 then leb i 14 || eqb i 16
-    else if eqb state 18 then leb i 14 || eqb i 17
-    else if eqb state 19 then leb i 16 || eqb i 18
+    when leb state 15 then ltb i state
+    else when eqb state 16 then leb i 15
+    else when eqb state 17 then leb i 14 || eqb i 16
+    else when eqb state 18 then leb i 14 || eqb i 17
+    else when eqb state 19 then leb i 16 || eqb i 18
     else true
 
 -- "RAW (0) all zero. .. Other words A."
 unfoldable pub state_word : List ℕ → ℕ → ℕ → ℕ
-state_word constants state i = if eqb state 0 then 0 else if has_b state i then const_b constants i else const_a constants i
+state_word constants state i = when eqb state 0 then 0 else when has_b state i then const_b constants i else const_a constants i
 
 unfoldable pub state_words : List ℕ → ℕ → List ℕ
 state_words constants state = listed (state_word constants state) 0 20
@@ -42,13 +42,13 @@ same_words (x ∷ xs) (y ∷ ys) = eqb x y && same_words xs ys
 -- the first of n numbers from i on whose encoding the words are
 unfoldable pub encoded_by : (ℕ → List ℕ) → List ℕ → ℕ → ℕ → Option ℕ
 encoded_by encoding ws i zero = none
-encoded_by encoding ws i (suc n) = if same_words ws (encoding i) then some i else encoded_by encoding ws (suc i) n
+encoded_by encoding ws i (suc n) = when same_words ws (encoding i) then some i else encoded_by encoding ws (suc i) n
 
 -- "Anything else is invalid, and so is count 0 with a state other than RAW."
 unfoldable pub life_cycle_of : Option ℕ → Option ℕ → LifeCycle
 life_cycle_of none count = Invalid
 life_cycle_of (some state) none = Invalid
-life_cycle_of (some state) (some count) = if eqb count 0 && not (eqb state 0) then Invalid else Valid state count
+life_cycle_of (some state) (some count) = when eqb count 0 && not (eqb state 0) then Invalid else Valid state count
 
 -- what 24 counter words and 20 state words stand for
 unfoldable pub decoded : List ℕ → List ℕ → List ℕ → LifeCycle

@@ -7,7 +7,7 @@ use Prim.Native.Nat.{ℕ, ◌+◌, ◌*◌, ◌/◌, ◌≤◌, ◌<◌}
 use native.Mathlib.Omega.{arith}
 use lib.ListN.{length, get_or}
 use borrow.Author.Tests.{not-false}
-use Rattle.basics.specs.Choice.{if◌then◌else◌}
+use Rattle.basics.specs.Choice.{when◌then◌else◌}
 use Rattle.basics.specs.Range.{listed}
 use Rattle.basics.proofs.Choice.{by_cases, true-not-false, not-passed, if-true, if-false, if-same}
 use Rattle.basics.proofs.Range.{length-listed, listed_at, is-listed}
@@ -62,7 +62,7 @@ after-same-but-hidden Q programmed.Done x x' f f' h g = h
 after-same-but-hidden Q (programmed.Refused cell) x x' f f' h g = g cell
 
 if-same-but-hidden : (Q : Performed → Performed → Type 0) {b b' : Bool} (x y x' y' : Performed) → b ≡ b' → Q x x' → Q y y'
-    → Q (if b then x else y) (if b' then x' else y')
+    → Q (when b then x else y) (when b' then x' else y')
 if-same-but-hidden Q {b} x y x' y' e f g =
     by_cases b (λ t. rw (if-true x y t, if-true x' y' (sym e ∙ t)) f) (λ t. rw (if-false x y t, if-false x' y' (sym e ∙ t)) g)
 

@@ -7,7 +7,7 @@ use Prim.Native.Nat.{ℕ, suc, ◌+◌, ◌*◌, ◌^◌}
 use native.Mathlib.Omega.{arith}
 use lib.Dec.{eqb}
 use borrow.Author.Tests.{eqb-false}
-use Rattle.basics.specs.Choice.{if◌then◌else◌}
+use Rattle.basics.specs.Choice.{when◌then◌else◌}
 use Rattle.basics.proofs.Choice.{true-not-false, if-both}
 use Rattle.words.specs.Programming.{program_answer}
 use Rattle.words.specs.declared.Programmed.{Programmed}
@@ -117,9 +117,9 @@ module _ (prims : Primitives) (map : Map) (m : Machine) (target given : ℕ) (en
   compares n test = by_result (test l)
     where
       by_result : (result : Bool) → ResultByCode entry
-          (with_comparison result (if result then perform (move_act prims map m target) l else perform (say TokenDiffers to_inert) l))
-      by_result true = unfold if◌then◌else◌ in (moves-same n)
-      by_result false = unfold if◌then◌else◌ with_comparison perform in (record {
+          (with_comparison result (when result then perform (move_act prims map m target) l else perform (say TokenDiffers to_inert) l))
+      by_result true = unfold when◌then◌else◌ in (moves-same n)
+      by_result false = unfold when◌then◌else◌ with_comparison perform in (record {
         differs = λ z. refl;
         free = λ z. absurd (omega arith);
         same = λ z. absurd (omega arith);

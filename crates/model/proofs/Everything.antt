@@ -1,5 +1,5 @@
 -- All definitions that a computed run opens, under one name.
-use Rattle.basics.specs.Choice.{if◌then◌else◌}
+use Rattle.basics.specs.Choice.{when◌then◌else◌}
 use Rattle.basics.specs.Range.{all_below, any_below, listed, first_not}
 use Rattle.words.specs.Words.{number_of, words_of, part_at}
 use Rattle.words.specs.Programming.{loses_bit, refuses, program_answer, stored, program_cells}
@@ -23,7 +23,7 @@ use Rattle.model.proofs.JudgedOnce.{after_judged, answers_judged}
 
 -- one name on an `unfolding` line opens the whole model
 unfoldable pub everything : Unit {0}
-unfolding if◌then◌else◌ all_below any_below listed first_not number_of words_of part_at loses_bit refuses program_answer stored program_cells rights_of holds number_at
+unfolding when◌then◌else◌ all_below any_below listed first_not number_of words_of part_at loses_bit refuses program_answer stored program_cells rights_of holds number_at
     nowhere partition partition_at limit in_digest granule_at first_word word_count kind_number number_of_kind map1 pair_valid valid_constants counter_word counter_words
     has_b state_word state_words same_words encoded_by life_cycle_of decoded is_test is_unlocked is_locked test_index table_entry is_ready sensed_at sensed_locked read_locked
     right_sizes key_of digest_start digest_final raw_unlock_hash effect_on after_program with_comparison perform direct_rule granule stored_digest data_words token_kind

@@ -7,7 +7,7 @@ use Prim.Native.Nat.{ℕ, suc, ◌*◌, ◌+◌, ◌/◌, ◌^◌, ◌≤◌, �
 use native.Mathlib.Omega.{arith}
 use lib.Dec.{leb, ltb}
 use borrow.Author.Tests.{not-false, not-true, leb-true, ltb-true, ltb-false}
-use Rattle.basics.specs.Choice.{if◌then◌else◌}
+use Rattle.basics.specs.Choice.{when◌then◌else◌}
 use Rattle.basics.proofs.Choice.{if-both, and_left, and_right}
 use Rattle.words.specs.Words.{words_of}
 use Rattle.partitions.specs.Map.{Map, number_at, partition_at, limit, first_word}
@@ -83,11 +83,11 @@ module _ (prims : Primitives) (map : Map) (m : Machine) where
         → Form (Transition target high low) (program life_cycle_rule (counter_at map) (counter_words k (suc m.session.count)) to_dead
         (authorized_act prims map m (authorization prims map m.session (table_entry m.session.state target) (high * 2 ^ 64 + low)) target))
 
-  choose : {x : Command} (b : Bool) {y z : Act} → (b ≡ true → Form x y) → (b ≡ false → Form x z) → Form x (if b then y else z)
+  choose : {x : Command} (b : Bool) {y z : Act} → (b ≡ true → Form x y) → (b ≡ false → Form x z) → Form x (when b then y else z)
   choose {x} b {y} {z} f g = if-both (Form x) b y z f g
 
   on-address : {x : Command} (a : ℕ) (rule : Bool) {next : Act} → quiet x → (a < limit map → rule ≡ false → Form x next)
-      → Form x (if leb (limit map) a || rule then refuse Denied else next)
+      → Form x (when leb (limit map) a || rule then refuse Denied else next)
   on-address a rule q f = choose _ (λ t. refuses (denied q)) (λ t. f (allowed-below map a rule t) (allowed-there map a rule t))
 
   transition-form : is_ready m.session.phase ≡ true → (target high low : ℕ)

@@ -8,7 +8,7 @@ use native.Mathlib.Omega.{arith}
 use lib.Dec.{eqb, ltb}
 use lib.ListN.{get_or}
 use borrow.Author.Tests.{ne_eqb}
-use Rattle.basics.specs.Choice.{if◌then◌else◌}
+use Rattle.basics.specs.Choice.{when◌then◌else◌}
 use Rattle.basics.specs.Digits.{bit}
 use Rattle.basics.specs.Range.{all_below, listed}
 use Rattle.basics.proofs.Choice.{true-not-false, to-T, if-false}
@@ -31,13 +31,13 @@ use Rattle.model.proofs.TransitionCodes.{tokens-compared}
 use Rattle.life_cycle.specs.declared.Token.TheVariants as token
 
 table : listed (λ state. listed (table_entry state) 0 21) 0 21 ≡ rows
-unfolding listed table_entry is_test is_unlocked is_locked test_index if◌then◌else◌
+unfolding listed table_entry is_test is_unlocked is_locked test_index when◌then◌else◌
 table = refl
 
 -- ---- state words
 
 same-marks : (state i : ℕ) → state < 21 → i < 20 → has_b state i ≡ eqb (bit (get_or marks state 0) i) 1
-unfolding all_below has_b if◌then◌else◌
+unfolding all_below has_b when◌then◌else◌
 same-marks state i l h =
     equal (has_b state i) (eqb (bit (get_or marks state 0) i) 1)
     (all-at 20 (λ i. same (has_b state i) (eqb (bit (get_or marks state 0) i) 1))
@@ -54,14 +54,14 @@ same-marks state i l h =
     equal false false e = refl
 
 state-words : (constants : List ℕ) (state i : ℕ) → 0 < state → state ≤ 20 → i < 20
-    → get_or (state_words constants state) i 0 ≡ (if eqb (bit (get_or marks state 0) i) 1 then get_or constants (104 + i) 0 else get_or constants (84 + i) 0)
+    → get_or (state_words constants state) i 0 ≡ (when eqb (bit (get_or marks state 0) i) 1 then get_or constants (104 + i) 0 else get_or constants (84 + i) 0)
 unfolding state_word
 state-words constants state i p l h =
     state-at constants state i h ∙ if-false _ _ (ne_eqb state 0 (λ z. omega arith))
-    ∙ ap (λ (b : Bool). if b then get_or constants (104 + i) 0 else get_or constants (84 + i) 0) (same-marks state i (omega arith) h)
+    ∙ ap (λ (b : Bool). when b then get_or constants (104 + i) 0 else get_or constants (84 + i) 0) (same-marks state i (omega arith) h)
 
 counter-words : (constants : List ℕ) (count i : ℕ) → 0 < count → i < 24
-    → get_or (counter_words constants count) i 0 ≡ (if ltb i count then get_or constants (60 + i) 0 else get_or constants (36 + i) 0)
+    → get_or (counter_words constants count) i 0 ≡ (when ltb i count then get_or constants (60 + i) 0 else get_or constants (36 + i) 0)
 unfolding counter_word
 counter-words constants count i p h = counter-at constants count i h ∙ if-false _ _ (ne_eqb count 0 (λ z. omega arith))
 
@@ -80,7 +80,7 @@ asks_one (Allowed token.TestExit) target = true
 asks_one (Allowed token.Rma) target = false
 
 locked-asks : (i target : ℕ) → i < 7 → target < 21 → asks_one (table_entry (2 * i + 2) target) target ≡ true
-unfolding asks_one all_below table_entry is_test is_unlocked is_locked test_index if◌then◌else◌
+unfolding asks_one all_below table_entry is_test is_unlocked is_locked test_index when◌then◌else◌
 locked-asks i target l h =
     all-at 21 (λ t. asks_one (table_entry (2 * i + 2) t) t) (to-T (all-at 7 (λ i. all_below 21 (λ t. asks_one (table_entry (2 * i + 2) t) t)) tt i l)) target h
 
@@ -112,14 +112,14 @@ module _ (prims : Primitives) (map : Map) (machine : Machine) where
       a = (tokens-compared prims map machine 19 high low).0 z
 
       dev : machine.session.state ≡ 16 → table_entry machine.session.state 19 ≡ Allowed token.Rma
-      dev e = unfold table_entry is_test is_unlocked is_locked test_index if◌then◌else◌ in (rw e refl)
+      dev e = unfold table_entry is_test is_unlocked is_locked test_index when◌then◌else◌ in (rw e refl)
 
       prod : machine.session.state ≡ 17 → table_entry machine.session.state 19 ≡ Allowed token.Rma
-      prod e = unfold table_entry is_test is_unlocked is_locked test_index if◌then◌else◌ in (rw e refl)
+      prod e = unfold table_entry is_test is_unlocked is_locked test_index when◌then◌else◌ in (rw e refl)
 
 module _ (prims : Primitives) (map : Map) where
   pub life-cycles : LifeCycles prims map
-  unfolding state_words state_word counter_words counter_word listed if◌then◌else◌
+  unfolding state_words state_word counter_words counter_word listed when◌then◌else◌
   life-cycles = record {
     table = table;
     raw = λ constants. refl;

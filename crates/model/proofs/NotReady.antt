@@ -4,7 +4,7 @@ use mathlib.Core.Bool.{false}
 use mathlib.Core.List.{List, [], ◌∷◌}
 use Prim.Native.Nat.{ℕ}
 use lib.Dec.{eqb}
-use Rattle.basics.specs.Choice.{if◌then◌else◌}
+use Rattle.basics.specs.Choice.{when◌then◌else◌}
 use Rattle.basics.proofs.Choice.{by_cases}
 use Rattle.partitions.specs.Map.{Map}
 use Rattle.model.specs.declared.Command.{Command}
@@ -18,7 +18,7 @@ use Rattle.model.proofs.Classes.{no-power-up}
 
 -- a transition that is not refused early leaves such a phase
 pub later-phase : (code : ℕ) → is_ready (phase_after code) ≡ false
-unfolding phase_after is_ready if◌then◌else◌
+unfolding phase_after is_ready when◌then◌else◌
 later-phase code = by_cases (eqb code 0x04) (λ t. rw t) (λ t. rw t)
 
 module _ (prims : Primitives) (map : Map) where

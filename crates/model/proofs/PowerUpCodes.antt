@@ -12,7 +12,7 @@ use native.Mathlib.Omega.{arith}
 use lib.Dec.{eqb, leb, ltb}
 use lib.ListN.{length, get_or, get_or-eq_default}
 use borrow.Author.Tests.{eqb-true, eqb-false, ne_eqb, leb-true, leb-false, lt-leb, not-false, not-true, ltb-true, ltb-false}
-use Rattle.basics.specs.Choice.{if◌then◌else◌}
+use Rattle.basics.specs.Choice.{when◌then◌else◌}
 use Rattle.basics.proofs.Choice.{by_cases, true-not-false, and_left, and_right, and_both, or-none-left, or-none-right, if-both, if-true, if-false, not-passed}
 use Rattle.basics.proofs.Range.{listed_at, length-listed}
 use Rattle.basics.proofs.First.{none-all, some_first, first_some, all_none}
@@ -161,11 +161,11 @@ module _ (prims : Primitives) (map : Map) (m : Machine) (r : ValidInputs map m) 
     life-answer = rw (step-up prims map m r, answer_to, none-verdict prims map m.lent h) refl
 
     pub power-up-scrap : (count : ℕ) → Encodes prims map m.lent 20 count → Says 0x07 (256 * count + 20) (answer_to prims map PowerUp m)
-    unfolding life_cycle_end powered_answer if◌then◌else◌
+    unfolding life_cycle_end powered_answer when◌then◌else◌
     power-up-scrap count e = rw (life-answer, decodes 20 count e) (refl, refl)
 
     done-says : (state count : ℕ) → (state ≡ 20 → ⊥) → Encodes prims map m.lent state count → Says 0x00 (256 * count + state) (answer_to prims map PowerUp m)
-    unfolding life_cycle_end powered_answer if◌then◌else◌
+    unfolding life_cycle_end powered_answer when◌then◌else◌
     done-says state count n e = rw (life-answer, decodes state count e, ne_eqb state 20 n) (refl, refl)
 
     -- the record then
@@ -176,7 +176,7 @@ module _ (prims : Primitives) (map : Map) (m : Machine) (r : ValidInputs map m) 
     pub power-up-done : (state count : ℕ) → (state ≡ 20 → ⊥) → Encodes prims map m.lent state count
         → let s = (machine_after prims map PowerUp m).session in
         Says 0x00 (256 * count + state) (answer_to prims map PowerUp m) × (s.phase ≡ phase.Ready) × (s.state ≡ state) × (s.count ≡ count)
-    unfolding life_cycle_end powered_session if◌then◌else◌
+    unfolding life_cycle_end powered_session when◌then◌else◌
     power-up-done state count n e =
         let same = ap (λ (l : LifeCycle). powered_session map (life_cycle_end l) m.lent) (decodes state count e) in
         let succeeded : (machine_after prims map PowerUp m).session ≡ powered_session map (succeeds state count) m.lent
@@ -261,10 +261,10 @@ module _ (prims : Primitives) (map : Map) (F : fit map ≡ true) where
         rw (first, w.1, place, key-is l.constants key.at, s) (if-true-block key)
       where
         if-true-block : (key : Keyed (partition_at map (2 * j)).kind)
-            → get_or (words_of 4 (if true then prims.decrypt (eight_from l.constants key.first) (number_of (part_at l.cells (j / 4 * 4) 4)) else number_of
+            → get_or (words_of 4 (when true then prims.decrypt (eight_from l.constants key.first) (number_of (part_at l.cells (j / 4 * 4) 4)) else number_of
             (part_at l.cells (j / 4 * 4) 4))) (j % 4) 0
             ≡ get_or (words_of 4 (prims.decrypt (eight_from l.constants key.first) (number_of (part_at l.cells (j / 4 * 4) 4)))) (j % 4) 0
-        if-true-block key = unfold if◌then◌else◌ in refl
+        if-true-block key = unfold when◌then◌else◌ in refl
 
     -- a word of secret data in the copy
     pub secret-copy : {first : ℕ} → KeyAt p.kind first → a < p.digest → copy_word prims map l.constants l.cells j

@@ -5,7 +5,7 @@ use mathlib.Core.Bool.{true}
 use mathlib.Core.List.{List}
 use Prim.Native.Nat.{ℕ, ◌/◌}
 use lib.Dec.{eqb}
-use Rattle.basics.specs.Choice.{if◌then◌else◌}
+use Rattle.basics.specs.Choice.{when◌then◌else◌}
 use Rattle.basics.specs.Range.{listed}
 use Rattle.basics.proofs.Choice.{by_cases, by-option}
 use Rattle.partitions.specs.Map.{Map, limit}
@@ -112,7 +112,7 @@ module _ (prims : Primitives) (map : Map) where
       (code_of (powered_answer w) ≡ 0x00 → ⊥)
       → (powered_copy prims map w l ≡ listed (λ j. 0) 0 (limit map / 2))
       × (powered_session map w l ≡ record {
-        phase = Dead (if eqb (code_of (powered_answer w)) 0x06 then reason.DigestFailed else reason.LifeCycleFailed);
+        phase = Dead (when eqb (code_of (powered_answer w)) 0x06 then reason.DigestFailed else reason.LifeCycleFailed);
         sensed = no_digests;
         locks = no_locks;
         state = 0;
@@ -120,7 +120,7 @@ module _ (prims : Primitives) (map : Map) where
       })
 
   powered-failed : (v : Option ℕ) (life : LifeCycle) (l : Lent) → Failed (end_of v life) l
-  unfolding end_of life_cycle_end powered_answer powered_copy powered_session if◌then◌else◌
+  unfolding end_of life_cycle_end powered_answer powered_copy powered_session when◌then◌else◌
   powered-failed (some number) life l = λ n. (refl, refl)
   powered-failed none Invalid l = λ n. (refl, refl)
   powered-failed none (Valid state count) l = by_cases (eqb state 20) (λ t. rw t (λ n. (refl, refl))) (λ t. rw t (λ n. absurd (n refl)))
@@ -133,7 +133,7 @@ module _ (prims : Primitives) (map : Map) where
         lent = with_copy (listed (λ j. 0) 0 (limit map / 2)) m.lent;
         session =
             record {
-              phase = Dead (if eqb code 0x06 then reason.DigestFailed else reason.LifeCycleFailed);
+              phase = Dead (when eqb code 0x06 then reason.DigestFailed else reason.LifeCycleFailed);
               sensed = no_digests;
               locks = no_locks;
               state = 0;

@@ -9,7 +9,7 @@ use lib.Dec.{eqb, leb, ltb}
 use lib.ListN.{length, get_or, set, length-set}
 use lib.Seq.{set_out, get_or-set_same, get_or-set_other}
 use borrow.Author.Tests.{eqb-true, eqb-false, ltb-true, ltb-false, not-false, not-true, leb-false, lt-leb}
-use Rattle.basics.specs.Choice.{if◌then◌else◌}
+use Rattle.basics.specs.Choice.{when◌then◌else◌}
 use Rattle.basics.proofs.Choice.{true-not-false, by_cases, if-both, not-passed, or_right}
 use Rattle.partitions.specs.Map.{Map, rights_of, number_at, partition, partition_at, limit, in_digest}
 use Rattle.partitions.specs.Fitness.{fit}
@@ -261,8 +261,8 @@ module _ (prims : Primitives) (map : Map) where
   -- a read of data that are locked
   read-denied : (n : ℕ) (m : Machine) → ValidInputs map m → (rights_of (partition map n).kind).lockable ≡ true → read_locked m.session n ≡ true → (a : ℕ)
       → number_at map a ≡ n → a < (partition_at map a).digest
-      → answer_to prims map (Read a) m ≡ (if is_ready m.session.phase then Denied else NotReady)
-  unfolding obey act performed ready_act command_act read_act read_denied perform in_digest if◌then◌else◌
+      → answer_to prims map (Read a) m ≡ (when is_ready m.session.phase then Denied else NotReady)
+  unfolding obey act performed ready_act command_act read_act read_denied perform in_digest when◌then◌else◌
   read-denied n m r k e a there is_data =
       let kind : (rights_of (partition_at map a).kind).lockable ≡ true = rw (partition-at map a there) k in
       let side : leb (partition_at map a).digest a ≡ false = lt-leb _ _ is_data in
@@ -277,7 +277,7 @@ module _ (prims : Primitives) (map : Map) where
       → (l : List Command) → NoPowerUp l
       → let m₁ = after prims map l (machine_after prims map (ReadLock n) m₀) in
       (a : ℕ) → number_at map a ≡ n → a < (partition_at map a).digest
-      → answer_to prims map (Read a) m₁ ≡ (if is_ready m₁.session.phase then Denied else NotReady)
+      → answer_to prims map (Read a) m₁ ≡ (when is_ready m₁.session.phase then Denied else NotReady)
   locks-last F m r l₀ n z l u a there is_data =
       let m₀ = after prims map (PowerUp ∷ l₀) m in
       let m₁ = after prims map l (machine_after prims map (ReadLock n) m₀) in

@@ -7,7 +7,7 @@ use mathlib.Core.Option.{Option}
 use Prim.Native.Nat.{ℕ}
 use lib.Dec.{eqb}
 use borrow.Author.Tests.{eqb-false}
-use Rattle.basics.specs.Choice.{if◌then◌else◌}
+use Rattle.basics.specs.Choice.{when◌then◌else◌}
 use Rattle.basics.proofs.Choice.{true-not-false}
 use Rattle.words.specs.declared.Rule.{Rule}
 use Rattle.words.specs.Programming.{program_answer}
@@ -113,7 +113,7 @@ later-by : (answer : Answer) (effect : Effect) → early (code_of answer) ≡ fa
 later-by answer effect e u f = (e, eqb-false _ _ u, f)
 
 later-ends : Ends Later
-unfolding early phase_after effect_on if◌then◌else◌
+unfolding early phase_after effect_on when◌then◌else◌
 later-ends = record {
   not-blank = λ cell. later-by (NotBlank cell) to_dead refl refl (λ s. refl);
   moved = later-by (Done 0) to_inert refl refl (λ s. refl);
@@ -138,7 +138,7 @@ module _ (prims : Primitives) (map : Map) (m : Machine) where
       ((λ j. absurd (true-not-false j l.0)), λ j. (l.2 m.session, λ u. absurd (l.1 u)))
 
   form-ends : {target high low : ℕ} {act : Act} → Form prims map m (Transition target high low) act → Ends-so act
-  unfolding perform early phase_after effect_on if◌then◌else◌
+  unfolding perform early phase_after effect_on when◌then◌else◌
   form-ends (Form.refuses r) = ((λ j. (refl, refl)), λ j. absurd (true-not-false (refused-early r) j))
   form-ends (Form.used t n) = ((λ j. absurd (true-not-false j refl)), λ j. (refl, λ u. refl))
   form-ends (Form.spends {target} t n) =

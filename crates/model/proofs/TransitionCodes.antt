@@ -1,6 +1,6 @@
 -- When a transition gives each code. The idea: where the words are taken, the table's entry and the token decide the code (`due`); each end has that code, or a
 -- 4.
-use Rattle.basics.specs.Choice.{if◌then◌else◌}
+use Rattle.basics.specs.Choice.{when◌then◌else◌}
 use Rattle.model.specs.Claims.Terms.{ValidInputs, Says}
 use mathlib.Core.Path.{◌≡◌, refl, sym, ap, ◌∙◌}
 use mathlib.Core.Bool.{Bool, true, false, ◌&&◌, not}
@@ -50,7 +50,7 @@ module _ (prims : Primitives) (map : Map) (m : Machine) (target given : ℕ) whe
 
   stored_code : Kind → ℕ → ℕ
   stored_code k offset =
-      if eqb (sensed_at m.session (number_of_kind map k)) 0 then 0x22
+      when eqb (sensed_at m.session (number_of_kind map k)) 0 then 0x22
       else same_code (eqb (prims.hash given) (eight_from m.lent.copy ((partition map (number_of_kind map k)).start / 2 + offset)))
 
   token_code : Token → ℕ

@@ -7,7 +7,7 @@ use mathlib.Core.Logic.{◌⊎◌, inl, inr, ⊎_elim}
 use Prim.Native.Nat.{ℕ, ◌+◌, ◌*◌, ◌^◌, ◌≤◌, ◌<◌}
 use lib.Dec.{eqb, leb, ltb}
 use borrow.Author.Tests.{eqb-true, not-false, not-true, leb-true, leb-false, ltb-true, ltb-false, le-leb, eqb-false}
-use Rattle.basics.specs.Choice.{if◌then◌else◌}
+use Rattle.basics.specs.Choice.{when◌then◌else◌}
 use Rattle.basics.proofs.Choice.{true-not-false, by_cases, if-both, and_both}
 use Rattle.words.specs.Programming.{program_answer, program_cells}
 use Rattle.partitions.specs.Map.{Map, number_of_kind}
@@ -136,8 +136,8 @@ module _ (prims : Primitives) (map : Map) (m : Machine) (target given : ℕ) whe
 
   -- once the record is judged
   pub ends : Ends (perform
-      (if not (leb target 20) then say UnknownTarget no_effect
-      else if not (ltb m.session.count 24) then say StrokesUsed to_inert
+      (when not (leb target 20) then say UnknownTarget no_effect
+      else when not (ltb m.session.count 24) then say StrokesUsed to_inert
       else spending) m.lent)
   ends =
       let to : Act → Type 0 = λ a. Ends (perform a m.lent) in

@@ -5,7 +5,7 @@ use mathlib.Core.Bool.{true, false}
 use mathlib.Core.Option.{none}
 use Prim.Native.Nat.{ℕ, ◌+◌, ◌*◌, suc}
 use lib.Dec.{eqb}
-use Rattle.basics.specs.Choice.{if◌then◌else◌}
+use Rattle.basics.specs.Choice.{when◌then◌else◌}
 use Rattle.basics.proofs.Choice.{true-not-false, by_cases, not-passed}
 use Rattle.partitions.specs.Map.{Map}
 use Rattle.partitions.specs.Fitness.{fit}
@@ -31,8 +31,8 @@ use Rattle.model.proofs.TransitionLife.{LifeAfter, kept, spent, went, transition
 module _ (prims : Primitives) (map : Map) (F : fit map ≡ true) where
   -- a power-up that no digest check fails answers what is decoded
   pub up-says : (m : Machine) → ValidInputs map m → (state count : ℕ) → life_cycle_in map m.lent ≡ Valid state count → verdict_of prims map m.lent ≡ none
-      → Says (if eqb state 20 then 0x07 else 0x00) (256 * count + state) (answer_to prims map PowerUp m)
-  unfolding power_up power_up_end end_of life_cycle_end powered_answer if◌then◌else◌
+      → Says (when eqb state 20 then 0x07 else 0x00) (256 * count + state) (answer_to prims map PowerUp m)
+  unfolding power_up power_up_end end_of life_cycle_end powered_answer when◌then◌else◌
   up-says m r state count e v = rw (step-up prims map m r, answer_to, v, e) (by_cases (eqb state 20) (λ t. rw t (refl, refl)) (λ t. rw t (refl, refl)))
 
   module _ (m : Machine) (h : Reached prims map F m) (target high low : ℕ) where

@@ -7,7 +7,7 @@ use lib.Dec.{eqb, ltb}
 use lib.ListN.{length, get_or, set}
 use lib.Seq.{sets, set_out, get_or-set_same, get_or-set_other}
 use borrow.Author.Tests.{eqb-true, eqb-false, ltb-true, ltb-false}
-use Rattle.basics.specs.Choice.{if◌then◌else◌}
+use Rattle.basics.specs.Choice.{when◌then◌else◌}
 use Rattle.basics.proofs.Choice.{by_cases, if-both}
 use Rattle.words.specs.declared.Rule.{Rule}
 use Rattle.words.specs.Words.{words_of}
@@ -54,7 +54,7 @@ words_small : (n x : ℕ) → Words (words_of n x)
 words_small n x = record { small = word_small n x }
 
 module _ (k : List ℕ) (K : Words k) where
-  small-choice : (b c : Bool) (i j : ℕ) → (if b then 0 else if c then get_or k i 0 else get_or k j 0) < 65536
+  small-choice : (b c : Bool) (i j : ℕ) → (when b then 0 else when c then get_or k i 0 else get_or k j 0) < 65536
   small-choice b c i j =
       if-both (λ (v : ℕ). v < 65536) _ _ _ (λ t. omega arith) λ t. if-both (λ (v : ℕ). v < 65536) _ _ _ (λ t. K.small i) (λ t. K.small j)
 

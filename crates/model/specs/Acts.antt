@@ -1,6 +1,6 @@
 -- A command is first decided, as an act, and then performed on what is lent: it says an answer, programs words, or compares a token.
 use Rattle.std.specs.Prelude.{ℕ, Bool, List, [], ◌∷◌}
-use Rattle.basics.specs.Choice.{if◌then◌else◌}
+use Rattle.basics.specs.Choice.{when◌then◌else◌}
 use Rattle.words.specs.declared.Rule.{Rule}
 use Rattle.words.specs.declared.Programmed.{Programmed}
 use Rattle.words.specs.declared.Programmed.TheVariants as programmed
@@ -59,4 +59,4 @@ perform (say answer effect) l = record { cells = l.cells; answer = answer; effec
 perform (program rule at words effect next) l =
     after_program (program_answer rule l.cells at words) (perform next (with_cells (program_cells rule l.cells at words) l))
     (λ cell. record { cells = l.cells; answer = NotBlank cell; effect = effect; compared = [] })
-perform (compare test same other) l = with_comparison (test l) (if test l then perform same l else perform other l)
+perform (compare test same other) l = with_comparison (test l) (when test l then perform same l else perform other l)

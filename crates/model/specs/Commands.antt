@@ -2,7 +2,7 @@
 -- numbers there are those of Map 1: "0x10, 0x06 and the address limit read from the map in use; where 01 or Two numbers or counts partitions, their kind
 -- decides." (request Six)
 use Rattle.std.specs.Prelude.{ℕ, suc, ◌+◌, ◌*◌, ◌-◌, ◌/◌, ◌^◌, Bool, not, ◌&&◌, ◌||◌, List, eqb, leb, ltb}
-use Rattle.basics.specs.Choice.{if◌then◌else◌}
+use Rattle.basics.specs.Choice.{when◌then◌else◌}
 use Rattle.words.specs.declared.Rule.{Rule}
 use Rattle.words.specs.declared.Rule.TheVariants.{KeepBits, BlankOnly}
 use Rattle.words.specs.Words.{number_of, words_of, part_at}
@@ -29,7 +29,7 @@ use Rattle.model.specs.Acts.{no_effect, lock, to_inert, to_dead, Act, say, progr
 -- "A direct access write, or a digest command, is now refused with 4 if any word of its target granule is nonzero, whatever the value. LIFE_CYCLE
 -- words keep the old rule." (request Three) "AUTH_STATE data, like LIFE_CYCLE, keeps the old rule" (request Six).
 unfoldable pub direct_rule : Partition → ℕ → Rule
-direct_rule p a = if (rights_of p.kind).additive && not (in_digest p a) then KeepBits else BlankOnly
+direct_rule p a = when (rights_of p.kind).additive && not (in_digest p a) then KeepBits else BlankOnly
 
 abbrev pub digest_rule : Rule
 digest_rule = BlankOnly
@@ -89,10 +89,10 @@ digest_denied locked p a = not (rights_of p.kind).hardware || not (eqb a p.start
 module _ (prims : Primitives) where
   -- "Secret data is scrambled, then programmed." "Secret data is unscrambled, a blank block too."
   unfoldable pub scrambled : List ℕ → Partition → ℕ → ℕ
-  scrambled constants p x = if (rights_of p.kind).scrambled then prims.encrypt (key_of constants p.kind) x else x
+  scrambled constants p x = when (rights_of p.kind).scrambled then prims.encrypt (key_of constants p.kind) x else x
 
   unfoldable pub unscrambled : List ℕ → Partition → ℕ → ℕ
-  unscrambled constants p x = if (rights_of p.kind).scrambled then prims.decrypt (key_of constants p.kind) x else x
+  unscrambled constants p x = when (rights_of p.kind).scrambled then prims.decrypt (key_of constants p.kind) x else x
 
   -- the words that a write of a value stores at an address
   abbrev pub stored_form : List ℕ → Partition → ℕ → ℕ → List ℕ
@@ -100,7 +100,7 @@ module _ (prims : Primitives) where
 
   -- what a read answers: "Digests are always readable, plain. .. Reads look at cells; the value is the granule's"
   unfoldable pub read_value : List ℕ → Partition → List ℕ → ℕ → ℕ
-  read_value constants p cells a = if in_digest p a then granule p cells a else unscrambled constants p (granule p cells a)
+  read_value constants p cells a = when in_digest p a then granule p cells a else unscrambled constants p (granule p cells a)
 
   -- "Computes over the stored data words"
   unfoldable pub computed_digest : List ℕ → Partition → List ℕ → ℕ
@@ -132,7 +132,7 @@ module _ (prims : Primitives) (map : Map) (s : Session) where
   -- "0x22": the token's partition is not sensed locked
   unfoldable pub locked_token : Token → ℕ → Authorization
   locked_token token given =
-      if not (sensed_locked s (number_of_kind map (token_kind token))) then refused TokenNotLocked
+      when not (sensed_locked s (number_of_kind map (token_kind token))) then refused TokenNotLocked
       else by_token (λ l. hashes_to prims given (stored_token map token l.copy))
 
   -- "With none, the token is ignored and 0x22, 0x23 aren't given; the RAW token needs no lock."
@@ -158,13 +158,13 @@ module _ (prims : Primitives) (map : Map) (m : Machine) where
   unfoldable pub write_act : ℕ → ℕ → Act
   write_act a value =
       let p = partition_at map a in
-      if leb (limit map) a || write_denied (sensed_locked session (number_at map a)) p a then refuse Denied
+      when leb (limit map) a || write_denied (sensed_locked session (number_at map a)) p a then refuse Denied
       else program (direct_rule p a) (first_word p a) (stored_form prims constants p a value) no_effect (say (Done 0) no_effect)
 
   unfoldable pub read_act : ℕ → Act
   read_act a =
       let p = partition_at map a in
-      if leb (limit map) a || read_denied (sensed_locked session (number_at map a)) (read_locked session (number_at map a)) p a then refuse Denied
+      when leb (limit map) a || read_denied (sensed_locked session (number_at map a)) (read_locked session (number_at map a)) p a then refuse Denied
       else say (Done (read_value prims constants p m.lent.cells a)) no_effect
 
   -- "Computes over the stored data words, programs the digest location, answers the digest."
@@ -172,18 +172,18 @@ module _ (prims : Primitives) (map : Map) (m : Machine) where
   digest_act a =
       let p = partition_at map a in
       let digest = computed_digest prims constants p m.lent.cells in
-      if leb (limit map) a || digest_denied (sensed_locked session (number_at map a)) p a then refuse Denied
+      when leb (limit map) a || digest_denied (sensed_locked session (number_at map a)) p a then refuse Denied
       else program digest_rule (p.digest / 2) (words_of 4 digest) no_effect (say (Done digest) no_effect)
 
   -- "5 unless 0 or 1. Lasts until power-up; locking again answers 0." (0 and 1 are the partitions with a read lock)
   unfoldable pub read_lock_act : ℕ → Act
-  read_lock_act number = if not (rights_of (partition map number).kind).lockable then refuse Denied else say (Done 0) (lock number)
+  read_lock_act number = when not (rights_of (partition map number).kind).lockable then refuse Denied else say (Done 0) (lock number)
 
   -- "from the sensed copy"
   unfoldable pub front_read_act : ℕ → Act
   front_read_act a =
       let p = partition_at map a in
-      if leb (limit map) a || front_read_denied p a then refuse Denied else say (Done (granule p m.lent.copy a)) no_effect
+      when leb (limit map) a || front_read_denied p a then refuse Denied else say (Done (granule p m.lent.copy a)) no_effect
 
   -- "then the 20 state words are programmed"
   unfoldable pub move_act : ℕ → Act
@@ -199,9 +199,9 @@ module _ (prims : Primitives) (map : Map) (m : Machine) where
   -- 0x23; then the 20 state words". Before them, 7 for a record's state above 20 or count above 24, and "0x11 changes nothing".
   unfoldable pub transition_act : ℕ → ℕ → Act
   transition_act target given =
-      if not (leb session.state 20 && leb session.count 24) then refuse NotReady
-      else if not (leb target 20) then refuse UnknownTarget
-      else if not (ltb session.count 24) then say StrokesUsed to_inert
+      when not (leb session.state 20 && leb session.count 24) then refuse NotReady
+      else when not (leb target 20) then refuse UnknownTarget
+      else when not (ltb session.count 24) then say StrokesUsed to_inert
       else program life_cycle_rule (counter_at map) (counter_words constants (suc session.count)) to_dead
       (authorized_act (authorization prims map session (table_entry session.state target) given) target)
 
@@ -217,7 +217,7 @@ module _ (prims : Primitives) (map : Map) (m : Machine) where
 
   -- "phase is not Ready (except at power-up)"
   unfoldable pub ready_act : Command → Act
-  ready_act x = if not (is_ready session.phase) then refuse NotReady else command_act x
+  ready_act x = when not (is_ready session.phase) then refuse NotReady else command_act x
 
 -- The class of a command, for rules that tell no more apart: power-up, which is no act; transitions; and the others, which leave the phase.
 pub data Class : Type 0 where

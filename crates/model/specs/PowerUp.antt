@@ -1,7 +1,7 @@
 -- Power-up, "from any phase".
 use Rattle.std.specs.Prelude.{ℕ, ◌+◌, ◌*◌, ◌-◌, ◌/◌, Bool, not, ◌&&◌, ◌||◌, List, eqb, length, get_or}
 use Rattle.std.proofs.Math.Option.{Option, none, some}
-use Rattle.basics.specs.Choice.{if◌then◌else◌}
+use Rattle.basics.specs.Choice.{when◌then◌else◌}
 use Rattle.basics.specs.Range.{listed, first_not}
 use Rattle.words.specs.Words.{words_of, part_at}
 use Rattle.partitions.specs.declared.Partition.{Partition}
@@ -21,7 +21,7 @@ use Rattle.model.specs.Commands.{granule, stored_digest, computed_digest, unscra
 
 -- the stored digest of a partition that has one (those with direct access: all but LIFE_CYCLE), else 0
 unfoldable pub sensed_digest : List ℕ → Partition → ℕ
-sensed_digest cells p = if (rights_of p.kind).direct then stored_digest p cells else 0
+sensed_digest cells p = when (rights_of p.kind).direct then stored_digest p cells else 0
 
 -- by the numbers of the partitions, as many as the record has entries; 0 past the last partition
 unfoldable pub digests : List ℕ → Map → List ℕ
@@ -36,7 +36,7 @@ pub data PowerUpEnd : Type 0 where
 unfoldable pub life_cycle_end : LifeCycle → PowerUpEnd
 life_cycle_end Invalid = fails reason.LifeCycleFailed (LifeCycleFailed 0xFFFF)
 life_cycle_end (Valid state count) =
-    if eqb state 20 then fails reason.LifeCycleFailed (LifeCycleFailed (256 * count + state)) else succeeds state count
+    when eqb state 20 then fails reason.LifeCycleFailed (LifeCycleFailed (256 * count + state)) else succeeds state count
 
 -- "the first that differs gives 6 and Dead 6. Then .."
 unfoldable pub end_of : Option ℕ → LifeCycle → PowerUpEnd
@@ -78,8 +78,8 @@ module _ (prims : Primitives) (map : Map) where
   copy_word constants cells j =
       let a = 2 * j in
       let p = partition_at map a in
-      if (rights_of p.kind).lockable then 0
-      else if (rights_of p.kind).scrambled && not (in_digest p a)
+      when (rights_of p.kind).lockable then 0
+      else when (rights_of p.kind).scrambled && not (in_digest p a)
       then get_or (words_of (word_count p a) (unscrambled prims constants p (granule p cells a))) (j - first_word p a) 0
       else get_or cells j 0
 

@@ -1,7 +1,7 @@
 -- One command, and lists of commands: "each gets the cells, copy and record that the last one left".
 use Rattle.std.specs.Prelude.{ℕ, Bool, not, List, [], ◌∷◌, length}
 use Rattle.std.proofs.Math.Option.{Option, none, some}
-use Rattle.basics.specs.Choice.{if◌then◌else◌}
+use Rattle.basics.specs.Choice.{when◌then◌else◌}
 use Rattle.partitions.specs.Map.{Map}
 use Rattle.constants.specs.Constants.{valid_constants}
 use Rattle.model.specs.declared.Sizes.{Sizes}
@@ -48,8 +48,8 @@ performed r m =
 -- it is not.
 unfoldable pub judgement : Map → Sizes → List ℕ → Option Answer
 judgement map sizes constants =
-    if not (right_sizes map sizes (length constants)) then some WrongLength
-    else if not (valid_constants constants) then some InvalidConstants
+    when not (right_sizes map sizes (length constants)) then some WrongLength
+    else when not (valid_constants constants) then some InvalidConstants
     else none
 
 module _ (prims : Primitives) (map : Map) where

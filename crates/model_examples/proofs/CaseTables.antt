@@ -9,7 +9,7 @@ use native.Mathlib.Omega.{arith}
 use lib.Bits.{bit_xor, xor_lt, xor_mod}
 use lib.Dec.{lit<}
 use borrow.Author.Tests.{eq-eqb, ne_eqb}
-use Rattle.basics.specs.Choice.{if◌then◌else◌}
+use Rattle.basics.specs.Choice.{when◌then◌else◌}
 use Rattle.words.specs.Programming.{program_cells}
 use Rattle.words.proofs.Words.{number-words}
 use Rattle.partitions.specs.Map.{Map}
@@ -106,7 +106,7 @@ module _ (prims : Primitives) (keys : ℕ → ℕ) where
           let cells = program_cells life_cycle_rule powered.lent.cells (counter_at partitions) (counter_words powered.lent.constants 1) in
           let lent = with_cells cells powered.lent in
           performed (with_comparison result
-          (if result then perform (move_act prims partitions powered 1) lent else perform (say TokenDiffers to_inert) lent)) powered
+          (when result then perform (move_act prims partitions powered 1) lent else perform (say TokenDiffers to_inert) lent)) powered
 
     -- its answers, with those of the commands after it
     abbrev pub unlocked : List Command → Step → List (ℕ × ℕ)

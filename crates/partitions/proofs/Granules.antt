@@ -6,7 +6,7 @@ use native.Mathlib.Omega.{arith}
 use lib.Dec.{leb}
 use lib.ListN.{length}
 use borrow.Author.Tests.{leb-true, leb-false, le-leb, lt-leb}
-use Rattle.basics.specs.Choice.{if◌then◌else◌}
+use Rattle.basics.specs.Choice.{when◌then◌else◌}
 use Rattle.basics.proofs.Choice.{by_cases, if-true, if-false}
 use Rattle.partitions.specs.declared.Partition.{Partition}
 use Rattle.partitions.specs.Map.{Map, rights_of, number_at, partition, partition_at, limit, in_digest, granule_at, first_word, word_count}
@@ -16,8 +16,8 @@ use Rattle.partitions.proofs.Map.{FitPartition, inside, only, partition-at, part
 -- ---- the size of a granule: all that the other laws know of it
 
 -- eight bytes in a digest and in scrambled data, four in other data
-granule-size : {p : Partition} → FitPartition p → (a : ℕ) → granule_at p a ≡ (if in_digest p a || (rights_of p.kind).scrambled then 8 else 4)
-unfolding granule_at if◌then◌else◌
+granule-size : {p : Partition} → FitPartition p → (a : ℕ) → granule_at p a ≡ (when in_digest p a || (rights_of p.kind).scrambled then 8 else 4)
+unfolding granule_at when◌then◌else◌
 granule-size {p} f a = by_cases (in_digest p a) (λ d. rw d) (λ d. rw d f.sized)
 
 -- four bytes or eight, and each case may use which
@@ -26,7 +26,7 @@ by-granule {p} f a four eight =
     by_cases (in_digest p a || (rights_of p.kind).scrambled) (λ e. eight (granule-size f a ∙ if-true 8 4 e)) (λ e. four (granule-size f a ∙ if-false 8 4 e))
 
 pub granule-scrambled : {p : Partition} → FitPartition p → (rights_of p.kind).scrambled ≡ true → (a : ℕ) → granule_at p a ≡ 8
-unfolding if◌then◌else◌
+unfolding when◌then◌else◌
 granule-scrambled {p} f e a = granule-size f a ∙ rw e (by_cases (in_digest p a) (λ d. rw d) (λ d. rw d))
 
 -- it may differ between data and digest, and nowhere else

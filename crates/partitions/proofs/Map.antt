@@ -7,7 +7,7 @@ use native.Mathlib.Omega.{arith}
 use lib.Dec.{eqb, leb, ltb}
 use lib.ListN.{length, get_or-eq_default}
 use borrow.Author.Tests.{eqb-true, leb-true, ltb-true, ltb-false, lt-ltb, le-ltb, le-leb, not-true}
-use Rattle.basics.specs.Choice.{if◌then◌else◌}
+use Rattle.basics.specs.Choice.{when◌then◌else◌}
 use Rattle.basics.proofs.Choice.{by_cases, true-not-false, not-passed, and_left, and_right, and_both, and-three, if-true, if-false}
 use Rattle.partitions.specs.declared.Partition.{Partition}
 use Rattle.partitions.specs.declared.Kind.TheVariants.{Secret0, Secret1, LifeCycle}
@@ -20,7 +20,7 @@ pub record FitPartition (p : Partition) : Type 0 where
   pub start-aligned : p.start % 8 ≡ 0
   pub digest-aligned : p.digest % 8 ≡ 0
   pub end-aligned : p.end % 8 ≡ 0
-  pub sized : p.granule ≡ (if (rights_of p.kind).scrambled then 8 else 4)
+  pub sized : p.granule ≡ (when (rights_of p.kind).scrambled then 8 else 4)
   pub filled : p.start < p.end
   pub data-first : p.start ≤ p.digest
   pub digest-last : p.digest ≤ p.end
@@ -47,7 +47,7 @@ record Placed (at : ℕ) (p : Partition) : Type 0 where
   start-aligned : p.start % 8 ≡ 0
   digest-aligned : p.digest % 8 ≡ 0
   end-aligned : p.end % 8 ≡ 0
-  sized : p.granule ≡ (if (rights_of p.kind).scrambled then 8 else 4)
+  sized : p.granule ≡ (when (rights_of p.kind).scrambled then 8 else 4)
 
 is-placed : (at : ℕ) (p : Partition) → placed at p ≡ true → Placed at p
 unfolding placed

@@ -3,7 +3,7 @@ use mathlib.Core.Path.{◌≡◌, refl, sym, ◌∙◌}
 use mathlib.Core.Bool.{true}
 use Prim.Native.Nat.{ℕ, ◌≤◌, ◌<◌}
 use lib.ListN.{length}
-use Rattle.basics.specs.Choice.{if◌then◌else◌}
+use Rattle.basics.specs.Choice.{when◌then◌else◌}
 use Rattle.partitions.specs.declared.MapName.{MapName}
 use Rattle.partitions.specs.declared.MapName.TheVariants.{Map1, Map2}
 use Rattle.partitions.specs.Map.{Map, rights_of, number_at, partition, limit, kind_number, number_of_kind}
@@ -14,11 +14,11 @@ use Rattle.partitions.specs.Fitness.{placed, digested, life_cycle_words, fit_fro
 use Rattle.partitions.proofs.Map.{only, outside}
 
 pub map1-fit : fit map1 ≡ true
-unfolding fit fit_from placed digested life_cycle_words count_of_kind once kind_number number_of_kind partition limit rights_of if◌then◌else◌ map1
+unfolding fit fit_from placed digested life_cycle_words count_of_kind once kind_number number_of_kind partition limit rights_of when◌then◌else◌ map1
 map1-fit = refl
 
 pub map2-fit : fit map2 ≡ true
-unfolding fit fit_from placed digested life_cycle_words count_of_kind once kind_number number_of_kind partition limit rights_of if◌then◌else◌ map2
+unfolding fit fit_from placed digested life_cycle_words count_of_kind once kind_number number_of_kind partition limit rights_of when◌then◌else◌ map2
 map2-fit = refl
 
 pub maps-fit : (name : MapName) → fit (map_of name) ≡ true

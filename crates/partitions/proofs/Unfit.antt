@@ -3,7 +3,7 @@ use Prim.Native.Nat.{ℕ, ◌+◌}
 use mathlib.Core.Path.{◌≡◌, refl}
 use mathlib.Core.Bool.{true, false}
 use mathlib.Core.List.{[], ◌∷◌}
-use Rattle.basics.specs.Choice.{if◌then◌else◌}
+use Rattle.basics.specs.Choice.{when◌then◌else◌}
 use Rattle.partitions.specs.declared.Kind.TheVariants.{Software, AuthState, HwCfg, Secret0, Secret1, Secret2, LifeCycle}
 use Rattle.partitions.specs.declared.Partition.{Partition}
 use Rattle.partitions.specs.Map.{Map, row, rights_of, nowhere, partition, limit, kind_number, number_of_kind}
@@ -11,7 +11,7 @@ use Rattle.partitions.specs.Fitness.{placed, digested, life_cycle_words, fit_fro
 
 -- one name on an `unfolding` line opens the test
 unfoldable fitness : Unit {0}
-unfolding fit fit_from placed digested life_cycle_words count_of_kind once kind_number number_of_kind partition nowhere limit rights_of if◌then◌else◌
+unfolding fit fit_from placed digested life_cycle_words count_of_kind once kind_number number_of_kind partition nowhere limit rights_of when◌then◌else◌
 fitness = tt
 
 -- the three secrets, up to address 216, and what follows; a partition of 16 bytes; the life cycle words at the end

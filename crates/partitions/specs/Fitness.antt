@@ -1,6 +1,6 @@
 -- Fitness of a map: a test that the checker computes.
 use Rattle.std.specs.Prelude.{ℕ, suc, ◌+◌, ◌%◌, Bool, false, not, ◌&&◌, [], ◌∷◌, eqb, leb, ltb, length}
-use Rattle.basics.specs.Choice.{if◌then◌else◌}
+use Rattle.basics.specs.Choice.{when◌then◌else◌}
 use Rattle.partitions.specs.declared.Partition.{Partition}
 use Rattle.partitions.specs.declared.Kind.{Kind}
 use Rattle.partitions.specs.declared.Kind.TheVariants.{Secret0, Secret1, Secret2}
@@ -13,7 +13,7 @@ placed at p =
     && eqb (p.start % 8) 0
     && eqb (p.digest % 8) 0
     && eqb (p.end % 8) 0
-    && eqb p.granule (if (rights_of p.kind).scrambled then 8 else 4)
+    && eqb p.granule (when (rights_of p.kind).scrambled then 8 else 4)
 
 -- data, and then a digest of eight bytes
 unfoldable pub digested : Partition → Bool
@@ -32,7 +32,7 @@ fit_from at (p ∷ q ∷ ps) = placed at p && digested p && fit_from p.end (q �
 -- how many partitions are of a kind, and its first partition has this many bytes
 unfoldable pub count_of_kind : Map → Kind → ℕ
 count_of_kind [] k = 0
-count_of_kind (p ∷ ps) k = if eqb (kind_number p.kind) (kind_number k) then suc (count_of_kind ps k) else count_of_kind ps k
+count_of_kind (p ∷ ps) k = when eqb (kind_number p.kind) (kind_number k) then suc (count_of_kind ps k) else count_of_kind ps k
 
 unfoldable pub once : Map → Kind → ℕ → Bool
 once map k size =

@@ -1,6 +1,6 @@
 -- A map is a list of partitions, numbered from 0. Nothing here knows how many there are or where they stand. Addresses are byte addresses.
 use Rattle.std.specs.Prelude.{ℕ, suc, ◌*◌, ◌/◌, Bool, true, false, ◌&&◌, List, [], ◌∷◌, eqb, leb, ltb, get_or}
-use Rattle.basics.specs.Choice.{if◌then◌else◌}
+use Rattle.basics.specs.Choice.{when◌then◌else◌}
 use Rattle.partitions.specs.declared.Kind.{Kind}
 use Rattle.partitions.specs.declared.Kind.TheVariants.{Software, AuthState, HwCfg, Secret0, Secret1, Secret2, LifeCycle}
 use Rattle.partitions.specs.declared.Rights.{Rights}
@@ -35,7 +35,7 @@ holds p a = leb p.start a && ltb a p.end
 -- the number of the partition of an address; where none holds it, how many there are
 unfoldable pub number_at : Map → ℕ → ℕ
 number_at [] a = 0
-number_at (p ∷ ps) a = if holds p a then 0 else suc (number_at ps a)
+number_at (p ∷ ps) a = when holds p a then 0 else suc (number_at ps a)
 
 -- past the last partition: no bytes and no rights
 unfoldable pub nowhere : Partition
@@ -61,7 +61,7 @@ in_digest p a = leb p.digest a
 -- the granule of an address, in bytes: "every digest location of partitions 0 to 5 now has 8 bytes, for read and write" (document 02), and data have the
 -- granule of their partition
 unfoldable pub granule_at : Partition → ℕ → ℕ
-granule_at p a = if in_digest p a then 8 else p.granule
+granule_at p a = when in_digest p a then 8 else p.granule
 
 -- "low address bits inside a granule are ignored": its first word, and how many words it has
 unfoldable pub first_word : Partition → ℕ → ℕ
@@ -82,4 +82,4 @@ kind_number LifeCycle = 6
 
 unfoldable pub number_of_kind : Map → Kind → ℕ
 number_of_kind [] k = 0
-number_of_kind (p ∷ ps) k = if eqb (kind_number p.kind) (kind_number k) then 0 else suc (number_of_kind ps k)
+number_of_kind (p ∷ ps) k = when eqb (kind_number p.kind) (kind_number k) then 0 else suc (number_of_kind ps k)

@@ -1,6 +1,6 @@
 -- "A caller names either map". What is listed of a map: the sizes and kinds of its partitions, and the numbers of those that have a right.
 use Rattle.std.specs.Prelude.{ℕ, suc, ◌-◌, Bool, List, [], ◌∷◌}
-use Rattle.basics.specs.Choice.{if◌then◌else◌}
+use Rattle.basics.specs.Choice.{when◌then◌else◌}
 use Rattle.partitions.specs.declared.MapName.{MapName}
 use Rattle.partitions.specs.declared.MapName.TheVariants.{Map1, Map2}
 use Rattle.partitions.specs.declared.Kind.{Kind}
@@ -26,4 +26,4 @@ kinds (p ∷ ps) = p.kind ∷ kinds ps
 -- of the partitions numbered from n on, those whose kind has the right
 unfoldable pub numbers_with : (Rights → Bool) → ℕ → Map → List ℕ
 numbers_with right n [] = []
-numbers_with right n (p ∷ ps) = if right (rights_of p.kind) then n ∷ numbers_with right (suc n) ps else numbers_with right (suc n) ps
+numbers_with right n (p ∷ ps) = when right (rights_of p.kind) then n ∷ numbers_with right (suc n) ps else numbers_with right (suc n) ps

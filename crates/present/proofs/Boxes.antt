@@ -3,7 +3,7 @@ use mathlib.Core.Path.{◌≡◌, ap, ◌∙◌}
 use Prim.Native.Nat.{ℕ, ◌^◌, ◌<◌}
 use lib.Dec.{T, eqb, ltb, lit<}
 use borrow.Author.Tests.{eqb-true, ltb-true}
-use Rattle.basics.specs.Choice.{if◌then◌else◌}
+use Rattle.basics.specs.Choice.{when◌then◌else◌}
 use Rattle.basics.specs.Range.{all_below, sum}
 use Rattle.basics.specs.Digits.{digit}
 use Rattle.basics.proofs.Range.{all-at}
@@ -19,15 +19,15 @@ unfolding s_box all_below
 s_box-lt v h = ltb-true (s_box v) 16 (all-at 16 (λ v. ltb (s_box v) 16) tt v h)
 
 pub s_box_inverse-lt : (v : ℕ) → v < 16 → s_box_inverse v < 16
-unfolding s_box s_box_inverse all_below sum if◌then◌else◌
+unfolding s_box s_box_inverse all_below sum when◌then◌else◌
 s_box_inverse-lt v h = ltb-true (s_box_inverse v) 16 (all-at 16 (λ v. ltb (s_box_inverse v) 16) tt v h)
 
 pub s_box-back : (v : ℕ) → v < 16 → s_box_inverse (s_box v) ≡ v
-unfolding s_box s_box_inverse all_below sum if◌then◌else◌
+unfolding s_box s_box_inverse all_below sum when◌then◌else◌
 s_box-back = same_at (λ v. s_box_inverse (s_box v)) (λ v. v) tt
 
 pub s_box-forth : (v : ℕ) → v < 16 → s_box (s_box_inverse v) ≡ v
-unfolding s_box s_box_inverse all_below sum if◌then◌else◌
+unfolding s_box s_box_inverse all_below sum when◌then◌else◌
 s_box-forth = same_at (λ v. s_box (s_box_inverse v)) (λ v. v) tt
 
 -- a word of 16 groups that holds a box: group v is the value at v

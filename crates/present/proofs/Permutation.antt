@@ -5,7 +5,7 @@ use Prim.Native.Nat.{ℕ, ◌*◌, ◌%◌, ◌^◌, ◌<◌}
 use lib.Bits.{bit_xor, xor_lt}
 use lib.Dec.{T, eqb, ltb, lit<}
 use borrow.Author.Tests.{eqb-true, ltb-true}
-use Rattle.basics.specs.Choice.{if◌then◌else◌}
+use Rattle.basics.specs.Choice.{when◌then◌else◌}
 use Rattle.basics.specs.Range.{all_below}
 use Rattle.basics.specs.Digits.{bit, number}
 use Rattle.basics.proofs.Choice.{and_left, and_right}
@@ -17,7 +17,7 @@ use Rattle.present.specs.Present.{place, permute, permute_back}
 
 -- the bit that comes to place j
 unfoldable source : ℕ → ℕ
-source j = if eqb j 63 then 63 else 4 * j % 63
+source j = when eqb j 63 then 63 else 4 * j % 63
 
 -- `from` leads back from where `to` leads
 abbrev Undone : (ℕ → ℕ) → (ℕ → ℕ) → Type 0
@@ -29,11 +29,11 @@ undone to from t i h =
     (ltb-true (to i) 64 (and_left (ltb (to i) 64) _ e), eqb-true (from (to i)) i (and_right (ltb (to i) 64) _ e))
 
 place-undone : Undone place source
-unfolding place source all_below if◌then◌else◌
+unfolding place source all_below when◌then◌else◌
 place-undone = undone place source tt
 
 source-undone : Undone source place
-unfolding place source all_below if◌then◌else◌
+unfolding place source all_below when◌then◌else◌
 source-undone = undone source place tt
 
 -- ---- numbers made of the bits of another

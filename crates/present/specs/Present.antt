@@ -2,7 +2,7 @@
 -- addition." A block is a number below 2 ^ 64 and a key one below 2 ^ 128; bit 0 is the lowest.
 use Rattle.std.specs.Prelude.{ℕ, zero, suc, ◌+◌, ◌*◌, ◌/◌, ◌%◌, ◌^◌, List, [], ◌∷◌, eqb, get_or}
 use Rattle.std.specs.Int.Bits.{bit_xor}
-use Rattle.basics.specs.Choice.{if◌then◌else◌}
+use Rattle.basics.specs.Choice.{when◌then◌else◌}
 use Rattle.basics.specs.Range.{listed, sum}
 use Rattle.basics.specs.Digits.{digit, number, bit}
 
@@ -20,7 +20,7 @@ substitute box x = number 16 16 (λ i. box (digit 16 x i))
 
 -- "Bit i goes to 16i mod 63, bit 63 stays."
 unfoldable pub place : ℕ → ℕ
-place i = if eqb i 63 then 63 else 16 * i % 63
+place i = when eqb i 63 then 63 else 16 * i % 63
 
 unfoldable pub permute : ℕ → ℕ
 permute x = sum 64 (λ i. bit x i * 2 ^ place i)
@@ -58,7 +58,7 @@ encrypt_block key block = bit_xor (state_after key block 31) (round_key (key_aft
 
 -- Decryption goes the same way back. The value that the S-box takes to v:
 unfoldable pub s_box_inverse : ℕ → ℕ
-s_box_inverse v = sum 16 (λ u. if eqb (s_box u) v then u else 0)
+s_box_inverse v = sum 16 (λ u. when eqb (s_box u) v then u else 0)
 
 -- bit i comes back from its place
 unfoldable pub permute_back : ℕ → ℕ

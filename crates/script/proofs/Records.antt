@@ -9,7 +9,7 @@ use lib.Dec.{eqb}
 use lib.ListN.{length}
 use borrow.Author.Tests.{lt-ltb, le-ltb, le-leb, lt-leb, ltb-true, ltb-false, leb-true, leb-false, eqb-true}
 use denote.Enum.Declared.{tag_of}
-use Rattle.basics.specs.Choice.{if◌then◌else◌}
+use Rattle.basics.specs.Choice.{when◌then◌else◌}
 use Rattle.basics.specs.Range.{all_below}
 use Rattle.basics.proofs.Choice.{if-true, if-false, if-both, or-none-right}
 use Rattle.basics.proofs.Range.{all-at}
@@ -61,7 +61,7 @@ other_place (Record r p) at h = ⊎_elim (λ w. omega arith) (λ w. omega arith)
 other_place End at h = refl
 other_place (Refused w p) at h = refl
 
-either : (b : Bool) {x y : ℕ} → x ≤ 17 → y ≤ 17 → (if b then x else y) ≤ 17
+either : (b : Bool) {x y : ℕ} → x ≤ 17 → y ≤ 17 → (when b then x else y) ≤ 17
 either b h k = if-both (λ (n : ℕ). n ≤ 17) b _ _ (λ e. h) (λ e. k)
 
 -- no body is longer than a transition's
@@ -93,7 +93,7 @@ led s p =
 
 -- a known kind is that of its command
 kind-known : (s : List ℕ) (k at : ℕ) → unknown k ≡ false → kind_of (command_at s k at) ≡ k
-unfolding all_below unknown command_at if◌then◌else◌
+unfolding all_below unknown command_at when◌then◌else◌
 kind-known s k at known =
     let h : k ≤ 7 = ltb-false _ _ (or-none-right (eqb k 0) _ known) in
     eqb-true _ _ (rw known at (all-at 8 (λ i. unknown i || eqb (kind_of (command_at s i at)) i) tt k (omega arith)))

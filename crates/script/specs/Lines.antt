@@ -1,12 +1,12 @@
 -- The lines that the bench program prints, as bytes (ASCII: a newline is 10, a space 32, 0 is 48, a is 97).
 use Rattle.std.specs.Prelude.{ℕ, zero, suc, ◌+◌, ◌-◌, ◌/◌, ◌%◌, List, [], ◌∷◌, ◌++◌, ltb, length, replicate}
-use Rattle.basics.specs.Choice.{if◌then◌else◌}
+use Rattle.basics.specs.Choice.{when◌then◌else◌}
 use Rattle.basics.specs.Digits.{digit}
 use Rattle.script.specs.declared.EndLine.{EndLine}
 
 -- 0 to 9, then a to f: "lower-case hex"
 unfoldable pub digit_byte : ℕ → ℕ
-digit_byte d = if ltb d 10 then 48 + d else 97 + (d - 10)
+digit_byte d = when ltb d 10 then 48 + d else 97 + (d - 10)
 
 -- the lowest n digits of x to the base b, the highest first
 unfoldable pub digits : ℕ → ℕ → ℕ → List ℕ
@@ -20,7 +20,7 @@ line_of kind code value = digits 16 2 kind ++ (32 ∷ digits 16 2 code) ++ (32 �
 -- a number below 10 ^ n in decimal, without leading zeros
 unfoldable pub decimal : ℕ → ℕ → List ℕ
 decimal zero x = []
-decimal (suc n) x = if ltb x 10 then digit_byte x ∷ [] else decimal n (x / 10) ++ (digit_byte (x % 10) ∷ [])
+decimal (suc n) x = when ltb x 10 then digit_byte x ∷ [] else decimal n (x / 10) ++ (digit_byte (x % 10) ∷ [])
 
 -- "The end line counts the lines before it, in decimal.": `end `, the count and a newline. A count of 64 bits has at most 20
 -- digits.

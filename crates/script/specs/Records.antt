@@ -1,6 +1,6 @@
 -- Script records (document 01): "A record is one byte of kind, then a body whose length the kind fixes".
 use Rattle.std.specs.Prelude.{ℕ, ◌+◌, Bool, ◌||◌, List, eqb, leb, ltb, length, get_or}
-use Rattle.basics.specs.Choice.{if◌then◌else◌}
+use Rattle.basics.specs.Choice.{when◌then◌else◌}
 use Rattle.basics.specs.Digits.{number}
 use Rattle.model.specs.declared.Command.{Command}
 use Rattle.model.specs.declared.Command.TheVariants.{Read, Write, FrontRead, Digest, ReadLock, Transition, PowerUp}
@@ -27,12 +27,12 @@ unknown kind = eqb kind 0 || ltb 7 kind
 -- 7 has no body, and neither has an unknown kind
 unfoldable pub body_length : ℕ → ℕ
 body_length kind =
-    if eqb kind 1 then 4
-    else if eqb kind 2 then 4 + 8
-    else if eqb kind 3 then 4
-    else if eqb kind 4 then 4
-    else if eqb kind 5 then 1
-    else if eqb kind 6 then 1 + 16
+    when eqb kind 1 then 4
+    else when eqb kind 2 then 4 + 8
+    else when eqb kind 3 then 4
+    else when eqb kind 4 then 4
+    else when eqb kind 5 then 1
+    else when eqb kind 6 then 1 + 16
     else 0
 
 -- a byte of the script
@@ -46,12 +46,12 @@ little_endian_at script at n = number 256 n (λ i. byte_at script (at + i))
 -- the command of a known kind (7 where it is none of 1 to 6) whose body stands at `at`; the low half of a token comes first
 unfoldable pub command_at : List ℕ → ℕ → ℕ → Command
 command_at script kind at =
-    if eqb kind 1 then Read (little_endian_at script at 4)
-    else if eqb kind 2 then Write (little_endian_at script at 4) (little_endian_at script (at + 4) 8)
-    else if eqb kind 3 then FrontRead (little_endian_at script at 4)
-    else if eqb kind 4 then Digest (little_endian_at script at 4)
-    else if eqb kind 5 then ReadLock (byte_at script at)
-    else if eqb kind 6 then Transition (byte_at script at) (little_endian_at script (at + 9) 8) (little_endian_at script (at + 1) 8)
+    when eqb kind 1 then Read (little_endian_at script at 4)
+    else when eqb kind 2 then Write (little_endian_at script at 4) (little_endian_at script (at + 4) 8)
+    else when eqb kind 3 then FrontRead (little_endian_at script at 4)
+    else when eqb kind 4 then Digest (little_endian_at script at 4)
+    else when eqb kind 5 then ReadLock (byte_at script at)
+    else when eqb kind 6 then Transition (byte_at script at) (little_endian_at script (at + 9) 8) (little_endian_at script (at + 1) 8)
     else PowerUp
 
 -- "0x11 unknown kind", "0x13 script record cut short", "0x14 script longer than 65,536 bytes"
@@ -65,10 +65,10 @@ unfoldable pub next_at : List ℕ → ℕ → Reading
 next_at script place =
     let kind = byte_at script place in
     let next = place + 1 + body_length kind in
-    if ltb 65536 (length script) then Refused TooLong 0
-    else if leb (length script) place then End
-    else if unknown kind then Refused UnknownKind place
-    else if ltb (length script) next then Refused CutShort place
+    when ltb 65536 (length script) then Refused TooLong 0
+    else when leb (length script) place then End
+    else when unknown kind then Refused UnknownKind place
+    else when ltb (length script) next then Refused CutShort place
     else Record (command_at script kind (place + 1)) next
 
 -- "a refusal doesn't move the place", and the end doesn't

@@ -4,7 +4,7 @@ use mathlib.Core.List.{List, [], ◌∷◌, ◌++◌}
 use Prim.Native.Nat.{ℕ, zero, suc, ◌<◌}
 use lib.Dec.{lit≤, lit<}
 use lib.ListN.{length, get_or}
-use Rattle.basics.specs.Choice.{if◌then◌else◌}
+use Rattle.basics.specs.Choice.{when◌then◌else◌}
 use Rattle.basics.specs.Range.{listed}
 use Rattle.sponge.specs.Sponge.{padding}
 use Rattle.sponge.specs.PaddingBits.{bits_of, pad101, suffix_of}
@@ -12,7 +12,7 @@ use Rattle.sponge.proofs.Padding.{padding-in-bits}
 
 -- "q = 1: M || 0x9F", "q = 2: M || 0x1F80", and a whole block behind whole blocks
 pub paddings : (padding 168 0x1F 167 ≡ 0x9F ∷ []) × (padding 168 0x1F 166 ≡ 0x1F ∷ 0x80 ∷ []) × (length (padding 168 0x1F 168) ≡ 168)
-unfolding padding listed if◌then◌else◌
+unfolding padding listed when◌then◌else◌
 paddings = (refl, refl, refl)
 
 -- "1111", the domain of SHAKE128

@@ -10,7 +10,7 @@ use lib.Dec.{eqb, ltb, lit<, eqb-suc-zero}
 use lib.ListN.{length, get_or, get_or-eq_default}
 use lib.Seq.{get_or-append-add}
 use borrow.Author.Tests.{ltb-true, ltb-false, eq-eqb, ne_eqb}
-use Rattle.basics.specs.Choice.{if◌then◌else◌}
+use Rattle.basics.specs.Choice.{when◌then◌else◌}
 use Rattle.basics.proofs.Choice.{by_cases, if-true, if-false}
 use Rattle.basics.proofs.Range.{length-listed, listed_at}
 use Rattle.sponge.specs.Sponge.{padding, added}
@@ -25,7 +25,7 @@ append-entry [] xs ys j h = h j (sym (zero-add j))
 append-entry (a ∷ front) xs ys zero h = refl
 append-entry (a ∷ front) xs ys (suc j) h = append-entry front xs ys j (λ r e. h r (omega arith))
 
-only-first : (x r : ℕ) → (if eqb r 0 then x else 0) ≡ get_or (x ∷ []) r 0
+only-first : (x r : ℕ) → (when eqb r 0 then x else 0) ≡ get_or (x ∷ []) r 0
 only-first x zero = if-true x 0 refl
 only-first x (suc r) = if-false x 0 (eqb-suc-zero r)
 
@@ -35,7 +35,7 @@ module _ (suffix n : ℕ) where
   count = 168 - n % 168
 
   abbrev last : ℕ → ℕ
-  last r = if eqb (r + 1) count then 0x80 else 0
+  last r = when eqb (r + 1) count then 0x80 else 0
 
   pub length-padding : length (padding 168 suffix n) ≡ count
   unfolding padding

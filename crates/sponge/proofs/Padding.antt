@@ -10,7 +10,7 @@ use lib.Dec.{eqb, ltb, lit<, eqb-zero-suc, eqb-suc-zero, eqb-suc-suc}
 use lib.ListN.{length, get_or, length-append, get_or-append, get_or-eq_default}
 use lib.Seq.{append_snoc, get_or-append-add}
 use borrow.Author.Tests.{eqb-true, eqb-false, ltb-true, ltb-false, eq-eqb, ne_eqb}
-use Rattle.basics.specs.Choice.{if◌then◌else◌}
+use Rattle.basics.specs.Choice.{when◌then◌else◌}
 use Rattle.basics.specs.Range.{all_below, sum, listed}
 use Rattle.basics.specs.Digits.{bit}
 use Rattle.basics.proofs.Choice.{by_cases, if-true, if-false}
@@ -60,17 +60,17 @@ bits_of-at (b ∷ bytes) p = by_cases (ltb p 8) (λ t. front (ltb-true p 8 t)) (
 -- ---- the last bit
 
 abbrev one_if : Bool → ℕ
-one_if b = if b then 1 else 0
+one_if b = when b then 1 else 0
 
 same_test : (a b c d : ℕ) → (a ≡ b → c ≡ d) → (c ≡ d → a ≡ b) → eqb a b ≡ eqb c d
 same_test a b c d f g =
     by_cases (eqb a b) (λ t. t ∙ sym (eq-eqb c d (f (eqb-true a b t)))) (λ t. t ∙ sym (ne_eqb c d (λ e. eqb-false a b t (g e))))
 
 highest-bit : (i : ℕ) → i < 8 → bit 0x80 i ≡ one_if (eqb i 7)
-unfolding all_below if◌then◌else◌
+unfolding all_below when◌then◌else◌
 highest-bit i h = eqb-true _ _ (all-at 8 (λ i. eqb (bit 0x80 i) (one_if (eqb i 7))) tt i h)
 
-last_bit : (count p : ℕ) → bit (if eqb (p / 8 + 1) count then 0x80 else 0) (p % 8) ≡ one_if (eqb (p + 1) (8 * count))
+last_bit : (count p : ℕ) → bit (when eqb (p / 8 + 1) count then 0x80 else 0) (p % 8) ≡ one_if (eqb (p + 1) (8 * count))
 last_bit count p =
     by_cases (eqb (p / 8 + 1) count)
     (λ t. ap (λ (x : ℕ). bit x (p % 8)) (if-true 0x80 0 t) ∙ highest-bit (p % 8) (omega arith) ∙ last_byte (eqb-true _ _ t))
@@ -109,7 +109,7 @@ module _ (rate n : ℕ) (domain : List ℕ) (pos : 0 < rate) (short : length dom
   past : (p : ℕ) → length domain < p → get_or begun p 0 ≡ 0
   past p h = get_or-eq_default begun 0 {n = p} (omega (arith, size-begun))
 
-  first-bits : (p : ℕ) → bit (if eqb (p / 8) 0 then suffix_of domain else 0) (p % 8) ≡ get_or begun p 0
+  first-bits : (p : ℕ) → bit (when eqb (p / 8) 0 then suffix_of domain else 0) (p % 8) ≡ get_or begun p 0
   unfolding suffix_of
   first-bits p =
       by_cases (eqb (p / 8) 0)
@@ -127,7 +127,7 @@ module _ (rate n : ℕ) (domain : List ℕ) (pos : 0 < rate) (short : length dom
       is-listed wanted (8 * count) _ (length-bits_of _ ∙ ap (λ (k : ℕ). 8 * k) (length-listed _ 0 count))
       (λ p h. bits_of-at _ p
       ∙ ap (λ (x : ℕ). bit x (p % 8)) (listed_at _ 0 count (p / 8) (omega arith))
-      ∙ bit-xor (if eqb (p / 8) 0 then suffix_of domain else 0) (if eqb (p / 8 + 1) count then 0x80 else 0) (p % 8)
+      ∙ bit-xor (when eqb (p / 8) 0 then suffix_of domain else 0) (when eqb (p / 8 + 1) count then 0x80 else 0) (p % 8)
       ∙ ap₂ bit_xor (first-bits p) (last_bit count p))
 
   -- the zeros between the two bits fill the last byte

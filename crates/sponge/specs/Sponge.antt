@@ -2,7 +2,7 @@
 -- (FIPS 202, B.1), so that a lane of the state has eight bytes, the lowest first. The rate is counted in bytes.
 use Rattle.std.specs.Prelude.{ℕ, zero, suc, ◌+◌, ◌*◌, ◌-◌, ◌/◌, ◌%◌, List, ◌++◌, eqb, length, get_or, take, drop}
 use Rattle.std.specs.Int.Bits.{bit_xor}
-use Rattle.basics.specs.Choice.{if◌then◌else◌}
+use Rattle.basics.specs.Choice.{when◌then◌else◌}
 use Rattle.basics.specs.Range.{listed}
 use Rattle.basics.specs.Digits.{digit, number}
 use Rattle.keccak.specs.Permutation.{keccak_f}
@@ -12,7 +12,7 @@ use Rattle.keccak.specs.Permutation.{keccak_f}
 unfoldable pub padding : ℕ → ℕ → ℕ → List ℕ
 padding rate suffix n =
     let count = rate - n % rate in
-    listed (λ i. bit_xor (if eqb i 0 then suffix else 0) (if eqb (i + 1) count then 0x80 else 0)) 0 count
+    listed (λ i. bit_xor (when eqb i 0 then suffix else 0) (when eqb (i + 1) count then 0x80 else 0)) 0 count
 
 -- "S = 0^b"
 unfoldable pub zero_state : List ℕ

@@ -2,7 +2,7 @@
 -- `at` says how many they are. A full block is permuted when the next byte comes.
 use Rattle.std.specs.Prelude.{ℕ, ◌+◌, ◌*◌, ◌/◌, ◌%◌, ◌^◌, List, [], ◌∷◌, eqb, leb, get_or, set}
 use Rattle.std.specs.Int.Bits.{bit_xor}
-use Rattle.basics.specs.Choice.{if◌then◌else◌}
+use Rattle.basics.specs.Choice.{when◌then◌else◌}
 use Rattle.keccak.specs.Permutation.{keccak_f}
 use Rattle.sponge.specs.declared.Sponge.{Sponge}
 use Rattle.sponge.specs.Sponge.{zero_state}
@@ -24,7 +24,7 @@ with_byte lanes i byte = set lanes (i / 8) (bit_xor (get_or lanes (i / 8) 0) (by
 
 -- a full block permuted
 unfoldable pub permuted_if_full : Sponge → Sponge
-permuted_if_full s = if leb rate s.at then sponge_of (keccak_f s.lanes) 0 else s
+permuted_if_full s = when leb rate s.at then sponge_of (keccak_f s.lanes) 0 else s
 
 -- one byte more
 unfoldable pub taken : Sponge → ℕ → Sponge
@@ -36,7 +36,7 @@ taken_all s (byte ∷ bytes) = taken_all (taken s byte) bytes
 
 -- zeros to the end of the block in hand
 unfoldable pub filled : Sponge → Sponge
-filled s = if eqb s.at 0 then s else sponge_of s.lanes rate
+filled s = when eqb s.at 0 then s else sponge_of s.lanes rate
 
 -- the padding and the last permutation: the state to squeeze
 unfoldable pub finished : Sponge → ℕ → List ℕ

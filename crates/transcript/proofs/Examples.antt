@@ -9,7 +9,7 @@ use lib.Dec.{T, eqb, ltb, lit<, lit≤}
 use lib.ListN.{length, get_or, set, replicate, get_or-eq_default}
 use lib.Seq.{get_or-set_other}
 use borrow.Author.Tests.{eqb-true, eqb-false, ltb-true, ltb-false}
-use Rattle.basics.specs.Choice.{if◌then◌else◌}
+use Rattle.basics.specs.Choice.{when◌then◌else◌}
 use Rattle.basics.specs.Range.{sum, all_below, first_not}
 use Rattle.basics.proofs.Choice.{by_cases}
 use Rattle.basics.proofs.Range.{all-at}
@@ -130,7 +130,7 @@ other-digest = refl
 verdict : (x : ℕ) → verdict_of primitives map2 (chip_of (image x) constants).lent ≡ some 6
 unfolding all words constants image
 verdict x =
-    ap (λ (holds : Bool). if holds then first_not
+    ap (λ (holds : Bool). when holds then first_not
     (λ n. digest_holds primitives (file_words constants) (file_words (image x)) (partition map2 n)) 7 4 else some 6) other-digest
 
 matched : Matched primitives (map_used (image 0)) (commands_of (7 ∷ [])) (chip_of (image 0) constants) (chip_of (image 5) constants)

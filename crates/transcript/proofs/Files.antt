@@ -7,7 +7,7 @@ use native.Mathlib.Omega.{arith}
 use lib.Dec.{eqb, leb}
 use lib.ListN.{length, get_or, drop}
 use borrow.Author.Tests.{le-leb, lt-leb}
-use Rattle.basics.specs.Choice.{if◌then◌else◌}
+use Rattle.basics.specs.Choice.{when◌then◌else◌}
 use Rattle.basics.proofs.Choice.{by_cases, if-true, if-false, if-both}
 use Rattle.transcript.specs.Files.{pairs, file_words, lent_words}
 
@@ -30,7 +30,7 @@ pair-at (low ∷ high ∷ bytes) (suc i) h =
 -- ---- how many words a file has, and how large they are
 
 abbrev words_in : ℕ → ℕ
-words_in n = if eqb (n % 2) 0 then n / 2 else 0
+words_in n = when eqb (n % 2) 0 then n / 2 else 0
 
 words-length : (bytes : List ℕ) → length (file_words bytes) ≡ words_in (length bytes)
 unfolding file_words

@@ -1,6 +1,6 @@
 -- What the bench program prints for a script, an image and constants.
 use Rattle.std.specs.Prelude.{ℕ, zero, suc, ◌+◌, ◌/◌, List, [], ◌∷◌, ◌++◌, eqb, length, replicate}
-use Rattle.basics.specs.Choice.{if◌then◌else◌}
+use Rattle.basics.specs.Choice.{when◌then◌else◌}
 use Rattle.partitions.specs.declared.MapName.{MapName}
 use Rattle.partitions.specs.declared.MapName.TheVariants.{Map1, Map2}
 use Rattle.partitions.specs.Map.{Map, limit}
@@ -43,7 +43,7 @@ lines_from map (suc n) script place m =
 
 -- "the bench takes Map 2 for an image of 1,480 bytes, else Map 1" (request Six)
 unfoldable pub map_for : List ℕ → MapName
-map_for image = if eqb (length image) 1480 then Map2 else Map1
+map_for image = when eqb (length image) 1480 then Map2 else Map1
 
 abbrev pub map_used : List ℕ → Map
 map_used image = map_of (map_for image)

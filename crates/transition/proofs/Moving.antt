@@ -6,7 +6,7 @@ use mathlib.Core.Option.{none}
 use Prim.Native.Nat.{ℕ, suc, ◌+◌, ◌*◌, ◌^◌, ◌≤◌, ◌<◌}
 use lib.Dec.{leb, ltb}
 use borrow.Author.Tests.{le-leb, lt-leb, lt-ltb, le-ltb}
-use Rattle.basics.specs.Choice.{if◌then◌else◌}
+use Rattle.basics.specs.Choice.{when◌then◌else◌}
 use Rattle.basics.proofs.Choice.{if-true, if-false}
 use Rattle.words.specs.declared.Rule.{Rule}
 use Rattle.words.specs.declared.Programmed.TheVariants as programmed
@@ -98,10 +98,10 @@ module _ (map : Map) (l : Lent) (s : Session) (target high low : ℕ) where
   spend_act = program life_cycle_rule at stroke to_dead (authorized_act primitives map m authorized target)
 
   abbrev stroke_act : Act
-  stroke_act = if not (ltb s.count 24) then say StrokesUsed to_inert else spend_act
+  stroke_act = when not (ltb s.count 24) then say StrokesUsed to_inert else spend_act
 
   abbrev target_act : Act
-  target_act = if not (leb target 20) then refuse UnknownTarget else stroke_act
+  target_act = when not (leb target 20) then refuse UnknownTarget else stroke_act
 
   decided : admitting map m ≡ none → (a : Act) → transition_act primitives map m target given ≡ a → result_for map x m ≡ comes_to a m
   unfolding command_act

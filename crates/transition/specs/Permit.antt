@@ -1,6 +1,6 @@
 -- What the code of a transition finds once the stroke is spent: whether table and token permit the move, and what the move comes to.
 use Rattle.std.specs.Prelude.{ℕ, Bool}
-use Rattle.basics.specs.Choice.{if◌then◌else◌}
+use Rattle.basics.specs.Choice.{when◌then◌else◌}
 use Rattle.words.specs.declared.Programmed.{Programmed}
 use Rattle.words.specs.declared.Programmed.TheVariants as programmed
 use Rattle.model.specs.declared.Reason.TheVariants.{BitCleared}
@@ -17,7 +17,7 @@ use Rattle.transition.specs.declared.Permit.TheVariants.{Granted, Refused}
 
 -- the test behind 0x23
 unfoldable pub compared_as : Bool → Permit
-compared_as same = if same then Granted else Refused TokenDiffers
+compared_as same = when same then Granted else Refused TokenDiffers
 
 -- an authorization, with what is lent
 unfoldable pub permit_of : Lent → Authorization → Permit

@@ -9,7 +9,7 @@ use lib.Dec.{ltb}
 use lib.ListN.{length, get_or, set, take, drop, length-drop, length-set, take-append-drop, get_or-eq_default}
 use lib.Seq.{sets, sets-eq, get_or-take, get_or-drop, drop-drop, drop-length, drop-cons, take_all, length-take-le}
 use borrow.Author.Tests.{ltb-true, ltb-false}
-use Rattle.basics.specs.Choice.{if◌then◌else◌}
+use Rattle.basics.specs.Choice.{when◌then◌else◌}
 use Rattle.basics.proofs.Choice.{by_cases}
 use Rattle.words.specs.declared.Rule.{Rule}
 use Rattle.words.specs.declared.Programmed.{Programmed}
@@ -64,8 +64,8 @@ abbrev pub counted : ℕ → Programmed → Programmed
 counted at Done = Done
 counted at (Refused i) = Refused (at + i)
 
-counted_if : (b : Bool) (at : ℕ) (x y : Programmed) → counted at (if b then x else y) ≡ (if b then counted at x else counted at y)
-unfolding if◌then◌else◌
+counted_if : (b : Bool) (at : ℕ) (x y : Programmed) → counted at (when b then x else y) ≡ (when b then counted at x else counted at y)
+unfolding when◌then◌else◌
 counted_if true at x y = refl
 counted_if false at x y = refl
 
@@ -74,7 +74,7 @@ part-answer : (rule : Rule) (vs c p : List ℕ) (at i : ℕ) → ((j : ℕ) → 
 unfolding program_answer
 part-answer rule [] c p at i h = refl
 part-answer rule (v ∷ vs) c p at i h =
-    ap₂ (λ (x : ℕ) (r : Programmed). if refuses rule x v then Refused (at + i) else r) (h i (omega arith) (omega arith))
+    ap₂ (λ (x : ℕ) (r : Programmed). when refuses rule x v then Refused (at + i) else r) (h i (omega arith) (omega arith))
     (ap (λ (n : ℕ). program_answer rule c n vs) (sym (add-suc at i)) ∙ part-answer rule vs c p at (suc i) (λ j l u. h j (omega arith) (omega arith)))
     ∙ sym (counted_if (refuses rule (get_or p i 0) v) at (Refused i) (program_answer rule p (suc i) vs))
 

@@ -9,7 +9,7 @@ use lib.Dec.{eqb, ltb}
 use lib.ListN.{length, get_or, set, get_or-eq_default}
 use lib.Seq.{sets, length-sets, get_or-set_same, get_or-set_other, set_out}
 use borrow.Author.Tests.{eqb-true, eqb-false, ltb-true, ltb-false}
-use Rattle.basics.specs.Choice.{if◌then◌else◌}
+use Rattle.basics.specs.Choice.{when◌then◌else◌}
 use Rattle.basics.specs.Range.{listed}
 use Rattle.basics.specs.Digits.{bit}
 use Rattle.basics.proofs.Choice.{by_cases, true-not-false, if-true, if-false}
@@ -69,7 +69,7 @@ module _ (rule : Rule) where
   unfolding program_answer
   answer-same [] c d at h = refl
   answer-same (v ∷ vs) c d at h =
-      ap₂ (λ (x : ℕ) (r : Programmed). if refuses rule x v then Refused at else r) (h at (omega arith) (omega arith))
+      ap₂ (λ (x : ℕ) (r : Programmed). when refuses rule x v then Refused at else r) (h at (omega arith) (omega arith))
       (answer-same vs c d (suc at) (λ j l u. h j (omega arith) (omega arith)))
 
   -- done: the first word was taken, and the rest

@@ -3,7 +3,7 @@
 -- whatever the value". Request Five: "Programming now answers the lowest word index, counted over the whole array, at which it was refused".
 use Rattle.std.specs.Prelude.{ℕ, suc, ◌+◌, ◌-◌, ◌≤◌, ◌<◌, ◌≡◌, Bool, true, false, not, ◌&&◌, List, [], ◌∷◌, eqb, length, get_or}
 use Rattle.std.proofs.lemmas.List.Edits.{sets}
-use Rattle.basics.specs.Choice.{if◌then◌else◌}
+use Rattle.basics.specs.Choice.{when◌then◌else◌}
 use Rattle.basics.specs.Range.{any_below}
 use Rattle.basics.specs.Digits.{bit}
 use Rattle.words.specs.declared.Rule.{Rule}
@@ -23,7 +23,7 @@ refuses BlankOnly stored value = not (eqb stored 0)
 -- all words of the value are tested, from the cell `at` on; the lowest that refuses is named
 unfoldable pub program_answer : Rule → List ℕ → ℕ → List ℕ → Programmed
 program_answer rule cells at [] = Done
-program_answer rule cells at (v ∷ vs) = if refuses rule (get_or cells at 0) v then Refused at else program_answer rule cells (suc at) vs
+program_answer rule cells at (v ∷ vs) = when refuses rule (get_or cells at 0) v then Refused at else program_answer rule cells (suc at) vs
 
 -- the words become the value, or none changes
 unfoldable pub stored : Programmed → List ℕ → ℕ → List ℕ → List ℕ

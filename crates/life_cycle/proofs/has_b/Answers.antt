@@ -3,25 +3,25 @@ use mathlib.Core.Path.{sym, ◌∙◌}
 use Prim.Native.Nat.{◌<◌}
 use borrow.Author.Tests.{le-leb, lt-leb, ne_eqb}
 use native.Mathlib.Omega.{arith}
-use Rattle.basics.specs.Choice.{if◌then◌else◌}
+use Rattle.basics.specs.Choice.{when◌then◌else◌}
 use Rattle.basics.proofs.Choice.{if-true, if-false}
 use Rattle.life_cycle.specs.Words.{has_b}
 use Rattle.life_cycle.proofs.has_b.Goals as goal
 
 pub returns-in-16 : goal.returns-in-16
-unfolding has_b if◌then◌else◌
+unfolding has_b when◌then◌else◌
 returns-in-16 c = rw c.in-16.is
 
 pub returns-in-17 : goal.returns-in-17
-unfolding has_b if◌then◌else◌
+unfolding has_b when◌then◌else◌
 returns-in-17 c = rw c.in-17.is
 
 pub returns-in-18 : goal.returns-in-18
-unfolding has_b if◌then◌else◌
+unfolding has_b when◌then◌else◌
 returns-in-18 c = rw c.in-18.is
 
 pub returns-in-19 : goal.returns-in-19
-unfolding has_b if◌then◌else◌
+unfolding has_b when◌then◌else◌
 returns-in-19 c = rw c.in-19.is
 
 pub returns-in-0-to-15 : goal.returns-in-0-to-15

@@ -1,6 +1,6 @@
 -- The life cycle in the papers' numbers, each table entered a second time: transitions, state words and counter words; and what follows for tokens.
 use Rattle.std.specs.Prelude.{ℕ, ◌+◌, ◌*◌, ◌^◌, ◌≤◌, ◌<◌, ◌≡◌, true, List, [], ◌∷◌, ◌⊎◌, eqb, ltb, get_or, replicate}
-use Rattle.basics.specs.Choice.{if◌then◌else◌}
+use Rattle.basics.specs.Choice.{when◌then◌else◌}
 use Rattle.basics.specs.Digits.{bit}
 use Rattle.basics.specs.Range.{listed}
 use Rattle.partitions.specs.Map.{Map}
@@ -74,11 +74,11 @@ module _ (prims : Primitives) (map : Map) where
     -- "RAW (0) all zero." "Other words A." A is in constants 84 to 103, B in 104 to 123
     pub raw : (constants : List ℕ) → state_words constants 0 ≡ replicate 20 0
     pub states : (constants : List ℕ) (state i : ℕ) → 0 < state → state ≤ 20 → i < 20
-        → get_or (state_words constants state) i 0 ≡ (if eqb (bit (get_or marks state 0) i) 1 then get_or constants (104 + i) 0 else get_or constants (84 + i) 0)
+        → get_or (state_words constants state) i 0 ≡ (when eqb (bit (get_or marks state 0) i) 1 then get_or constants (104 + i) 0 else get_or constants (84 + i) 0)
     -- "Count 0: all 24 counter words zero. Count n: words below n are D, the rest C." C is in constants 36 to 59, D in 60 to 83
     pub unused : (constants : List ℕ) → counter_words constants 0 ≡ replicate 24 0
     pub counts : (constants : List ℕ) (count i : ℕ) → 0 < count → i < 24
-        → get_or (counter_words constants count) i 0 ≡ (if ltb i count then get_or constants (60 + i) 0 else get_or constants (36 + i) 0)
+        → get_or (counter_words constants count) i 0 ≡ (when ltb i count then get_or constants (60 + i) 0 else get_or constants (36 + i) 0)
     -- a move to RMA (19) from DEV (16) or PROD (17) was given the RMA token
     pub to_rma : (machine : Machine) (high low : ℕ) → ((machine.session.state ≡ 16) ⊎ (machine.session.state ≡ 17))
         → code_of (answer_to prims map (Transition 19 high low) machine) ≡ 0x00 → Compared prims map machine (high * 2 ^ 64 + low) true token.Rma

@@ -1,6 +1,6 @@
 -- Read locks: what a lock refuses, until when, and that nothing else looks at it.
 use Rattle.std.specs.Prelude.{ℕ, ◌<◌, ◌≡◌, Bool, true, List, ◌∷◌, length, set}
-use Rattle.basics.specs.Choice.{if◌then◌else◌}
+use Rattle.basics.specs.Choice.{when◌then◌else◌}
 use Rattle.partitions.specs.Map.{Map, number_at, partition, partition_at}
 use Rattle.model.specs.declared.Answer.TheVariants.{Done, Denied, NotReady}
 use Rattle.model.specs.declared.Command.{Command}
@@ -33,7 +33,7 @@ module _ (prims : Primitives) (map : Map) where
         → (l : List Command) → NoPowerUp l
         → let m₁ = after prims map l (machine_after prims map (ReadLock n) m₀) in
         (a : ℕ) → number_at map a ≡ n → a < (partition_at map a).digest
-        → answer_to prims map (Read a) m₁ ≡ (if is_ready m₁.session.phase then Denied else NotReady)
+        → answer_to prims map (Read a) m₁ ≡ (when is_ready m₁.session.phase then Denied else NotReady)
     -- "for data, not digests, also if the partition is read-locked": all else is as without the lock, every answer and all that is lent, whatever follows
     pub others : (m : Machine) (n : ℕ) (l : List Command)
         → let m₁ = after prims map l (machine_after prims map (ReadLock n) m) in

@@ -2,7 +2,7 @@
 -- after its count has burned its counter words, one stroke more than its record counts." What such a request has burned is in Transitions.antt (`spent`,
 -- `stopped`).
 use Rattle.std.specs.Prelude.{ℕ, ◌≡◌, Bool, true, false, ◌||◌, List, ◌∷◌, ◌++◌, eqb}
-use Rattle.basics.specs.Choice.{if◌then◌else◌}
+use Rattle.basics.specs.Choice.{when◌then◌else◌}
 use Rattle.partitions.specs.Map.{Map}
 use Rattle.model.specs.declared.Reason.{Reason}
 use Rattle.model.specs.declared.Reason.TheVariants.{BitCleared}
@@ -26,7 +26,7 @@ early code = judgement_code code || eqb code 0x07 || eqb code 0x11
 
 -- "Every later answer leaves the phase Inert (Dead 4 after a 4)."
 unfoldable pub phase_after : ℕ → Phase
-phase_after code = if eqb code 0x04 then Dead BitCleared else Inert
+phase_after code = when eqb code 0x04 then Dead BitCleared else Inert
 
 module _ (prims : Primitives) (map : Map) where
   -- on this machine the command is a read, a front read, or one that is refused and no transition

@@ -1,7 +1,7 @@
 -- Sensing: what a power-up finds, and that it stays until the next.
 use Rattle.std.specs.Prelude.{ℕ, ◌/◌, ◌≡◌, true, false, List, [], ◌∷◌, ◌++◌, eqb, replicate}
 use Rattle.std.proofs.Math.Option.{none}
-use Rattle.basics.specs.Choice.{if◌then◌else◌}
+use Rattle.basics.specs.Choice.{when◌then◌else◌}
 use Rattle.basics.specs.Range.{listed}
 use Rattle.partitions.specs.Map.{Map, number_at, partition, partition_at, limit, number_of_kind}
 use Rattle.life_cycle.specs.declared.LifeCycle.TheVariants.{Valid}
@@ -75,7 +75,7 @@ module _ (prims : Primitives) (map : Map) where
         ≡ record {
           lent = with_copy (listed (λ j. 0) 0 (limit map / 2)) m.lent;
           session = record {
-            phase = Dead (if eqb code 0x06 then reason.DigestFailed else reason.LifeCycleFailed);
+            phase = Dead (when eqb code 0x06 then reason.DigestFailed else reason.LifeCycleFailed);
             sensed = replicate 10 0;
             locks = replicate 10 false;
             state = 0;

@@ -1,7 +1,7 @@
 -- Transitions: which cells each answer leaves, when each is given, what the life cycle words stand for afterwards, and where the stored tokens lie.
 use Rattle.std.specs.Prelude.{ℕ, suc, ◌+◌, ◌*◌, ◌/◌, ◌^◌, ◌≤◌, ◌<◌, ◌≡◌, Bool, true, false, ◌||◌, List, [], ◌∷◌, ◌++◌, ◌↔◌, ◌⊎◌, eqb}
 use Rattle.std.proofs.Math.Option.{none}
-use Rattle.basics.specs.Choice.{if◌then◌else◌}
+use Rattle.basics.specs.Choice.{when◌then◌else◌}
 use Rattle.words.specs.Words.{number_of, part_at}
 use Rattle.words.specs.Programming.{program_answer}
 use Rattle.partitions.specs.declared.Kind.{Kind}
@@ -104,7 +104,7 @@ module _ (prims : Primitives) (map : Map) where
     pub decodes : life_cycle_in map m.lent ≡ Valid state count
     pub answered : (l : List Command) → NoPowerUp l
         → let m₁ = after prims map l m in
-        verdict_of prims map m₁.lent ≡ none → Says (if eqb state 20 then 0x07 else 0x00) (256 * count + state) (answer_to prims map PowerUp m₁)
+        verdict_of prims map m₁.lent ≡ none → Says (when eqb state 20 then 0x07 else 0x00) (256 * count + state) (answer_to prims map PowerUp m₁)
 
   pub record Transitions : Type 0 where
     -- Which cells each code leaves, over any machine. "A refusal leaves cells, copy and record as they were"; "0x11 changes nothing": nor do 0x10, 0x12, 0x07

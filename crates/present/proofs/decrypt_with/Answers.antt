@@ -3,7 +3,7 @@ use mathlib.Core.Path.{◌≡◌, ap, subst, ◌∙◌}
 use Prim.Native.Nat.{ℕ, suc, ◌-◌}
 use native.Mathlib.Omega.{arith}
 use lib.Dec.{lit≤, lit<}
-use Rattle.basics.specs.Choice.{if◌then◌else◌}
+use Rattle.basics.specs.Choice.{when◌then◌else◌}
 use Rattle.basics.specs.Range.{all_below, sum}
 use Rattle.present.specs.Present.{s_box, s_box_inverse, permute_back, round_key, key_after}
 use Rattle.present.proofs.Boxes.{substitute-held}
@@ -30,7 +30,7 @@ loop-i-preserved c =
     )
 
 pub returns : goal.returns
-unfolding if◌then◌else◌ all_below sum s_box s_box_inverse
+unfolding when◌then◌else◌ all_below sum s_box s_box_inverse
 returns c =
     let last : c.loop-i.i ≡ 0 = omega arith in
     let boxed = c.substituted.ensures ∙ substitute-held _ s_box_inverse tt _ in
