@@ -5,12 +5,12 @@ use mathlib.Core.List.{List, [], ◌∷◌, ◌++◌, append_assoc, append-nil}
 use native.Mathlib.Nat.{add-zero, pow-suc, div-div-eq-div-mul, mul-suc}
 use native.Mathlib.Numerals.{add-one}
 use native.Mathlib.Omega.{arith}
-use lib.ListN.{length, get_or, set, take, drop, replicate, length-append, length-drop, length-replicate, drop_of_length-le}
+use lib.ListN.{length, get_or, set, take, drop, replicate, length-append, length-replicate, drop_of_length-le}
 use lib.Seq.{take_all, take-suc, take_at, drop_at, drop-drop, length-take-le}
 use Rattle.basics.specs.Range.{listed, sum}
 use Rattle.basics.specs.Digits.{digit}
 use Rattle.basics.proofs.Range.{length-listed}
-use Rattle.basics.proofs.Filling.{filled-length, filled_more}
+use Rattle.basics.proofs.Filling.{filled_more}
 use Rattle.script.specs.Records.{byte_at, little_endian_at}
 use Rattle.script.proofs.Numbers.{four_bytes, eight-bytes}
 use Rattle.frames.specs.Bytes.{bytes_of, all_bytes, zeros}
@@ -28,7 +28,8 @@ two-words s at =
 
 pub four-words : (s : List ℕ) (at : ℕ)
     → little_endian_at s at 8
-    ≡ little_endian_at s at 2 + 65536 * little_endian_at s (at + 2) 2 + 4294967296 * little_endian_at s (at + 4) 2 + 281474976710656 * little_endian_at s (at + 6) 2
+    ≡ little_endian_at s at 2 + 65536 * little_endian_at s (at + 2) 2 + 4294967296 * little_endian_at s (at + 4) 2
+    + 281474976710656 * little_endian_at s (at + 6) 2
 four-words s at =
     let e : little_endian_at s (at + 4 + 2) 2 ≡ little_endian_at s (at + 6) 2 = ap (λ (k : ℕ). little_endian_at s k 2) (omega arith) in
     omega (arith, e, eight-bytes s at, two-words s at, two-words s (at + 4))
@@ -49,9 +50,6 @@ unfolding zeros
 zeros-length n = length-replicate n 0
 
 -- ---- the bytes of a number, one after the other
-
-pub rest-none : (x : ℕ) → x ≡ x / 256 ^ 0
-rest-none x = omega arith
 
 pub rest_more : (x i rest : ℕ) → rest ≡ x / 256 ^ i → rest / 256 ≡ x / 256 ^ (i + 1)
 rest_more x i rest e = rw (e, add-one, pow-suc) (div-div-eq-div-mul x (256 ^ i) 256)
@@ -88,9 +86,6 @@ module _ (old xs : List ℕ) (i : ℕ) (size : length old ≡ 80) (ten : length 
   front : i ≤ 10 → length (all_bytes 8 (take i xs)) ≡ 8 * i
   front h = omega (arith, all-length 8 (take i xs), length-take-le i xs (omega arith))
 
-  pub digests-length : i ≤ 10 → length (Stored i) ≡ length old
-  digests-length h = let f = front h in simp (length-append, length-drop) (omega arith)
-
   pub digests-more : i < 10 → (part : List ℕ) → part ≡ bytes_of 8 (get_or xs i 0)
       → take (8 * i) (Stored i) ++ (part ++ drop 8 (drop (8 * i) (Stored i))) ≡ Stored (i + 1)
   unfolding all_bytes
@@ -103,9 +98,6 @@ module _ (old xs : List ℕ) (i : ℕ) (size : length old ≡ 80) (ten : length 
       rw (add-one i, take-suc xs i 0 (omega arith), all_append 8 (take i xs) (get_or xs i 0 ∷ []), append-nil b) refl in
       rw (take_at a (drop (8 * i) old) (8 * i) f, drop_at a (drop (8 * i) old) (8 * i) f, drop-drop 8 (8 * i) old, e, one, n)
       (sym (append_assoc a b (drop (8 * i + 8) old)))
-
-  pub digests-all : 10 ≤ i → Stored i ≡ all_bytes 8 xs
-  digests-all h = rw (take_all i xs (omega arith), drop_of_length-le old {i = 8 * i} (omega arith)) (append-nil (all_bytes 8 xs))
 
 -- ---- the bytes of words
 
@@ -130,10 +122,8 @@ module _ (old words : List ℕ) (i : ℕ) (size : length old ≡ 2 * length word
   abbrev Filled : ℕ → List ℕ
   Filled n = take n (all_bytes 2 words) ++ drop n old
 
-  pub words-filled : i ≤ length words → length (Filled (2 * i)) ≡ length old
-  words-filled h = let l = all-length 2 words in filled-length old (all_bytes 2 words) (2 * i) (omega arith) (omega arith)
-
-  pub words_more : i < length words → set (set (Filled (2 * i)) (2 * i) (get_or words i 0 % 256)) (2 * i + 1) (get_or words i 0 / 256 % 256) ≡ Filled (2 * (i + 1))
+  pub words_more : i < length words
+      → set (set (Filled (2 * i)) (2 * i) (get_or words i 0 % 256)) (2 * i + 1) (get_or words i 0 / 256 % 256) ≡ Filled (2 * (i + 1))
   words_more h =
       let l = all-length 2 words in
       let n : 2 * (i + 1) ≡ 2 * i + 1 + 1 = omega arith in

@@ -1,15 +1,12 @@
 -- Laws of a step, over what its code found. The idea: the reading decides which clause of `step_by` is due.
 use Prim.Native.Nat.{ℕ, ◌≤◌}
-use mathlib.Core.Path.{◌≡◌, refl, ap, ap₂, ◌∙◌}
+use mathlib.Core.Path.{◌≡◌, refl, ap, ◌∙◌}
 use mathlib.Core.List.{List}
-use mathlib.Core.Logic.{⊎_elim}
 use native.Mathlib.Omega.{arith}
 use lib.Dec.{ltb}
 use borrow.Author.Tests.{ltb-false}
 use Rattle.basics.proofs.Choice.{if-both}
-use Rattle.partitions.specs.declared.MapName.{MapName}
 use Rattle.partitions.specs.Map.{Map}
-use Rattle.partitions.specs.Maps.{map_of}
 use Rattle.model.specs.declared.Session.{Session}
 use Rattle.model.specs.declared.Command.{Command}
 use Rattle.model.specs.Answers.{code_of, value_of}
@@ -19,16 +16,15 @@ use Rattle.chip.specs.Chip.{lent_of, machine_of, result_for}
 use Rattle.script.specs.declared.Reading.{Reading}
 use Rattle.script.specs.declared.Reading.TheVariants.{Record, End, Refused}
 use Rattle.script.specs.Records.{little_endian_at, next_at}
-use Rattle.script.proofs.Records.{Other}
-use Rattle.frames.specs.declared.Stepped.{Stepped}
 use Rattle.frames.specs.Bytes.{numbers_at}
-use Rattle.frames.specs.Frames.{map_in, session_in, lent_in, cells_in, copy_in, constants_in, record_in, FrameStep, step_by, step_of, step_with, refused_of}
-use Rattle.frames.specs.Frames.{with_session, with_answer, with_memory, frame_with, frame_on, frame_after}
+use Rattle.frames.specs.Frames.{lent_in, cells_in, copy_in, constants_in, FrameStep, step_by, step_of, step_with, refused_of}
+use Rattle.frames.specs.Frames.{frame_on, frame_after}
 
-pub step-refused : (map : Map) (n : Reading) (l : Lent) (session : Session) → Other n
+pub step-refused : (map : Map) (n : Reading) (l : Lent) (session : Session)
+    → ((command : Command) (next : ℕ) → n ≡ Record command next → ⊥)
     → step_with l (refused_of n session) ≡ step_by map n (machine_of l session)
 unfolding step_by
-step-refused map (Record command next) l session h = absurd (⊎_elim (λ w. omega arith) (λ w. omega arith) h)
+step-refused map (Record command next) l session h = absurd (h command next refl)
 step-refused map End l session h = refl
 step-refused map (Refused refusal at) l session h = refl
 
@@ -47,16 +43,6 @@ pub lent-most : (frame : List ℕ) (at most : ℕ) → lent_in frame at most ≤
 unfolding lent_in
 lent-most frame at most =
     if-both (λ (n : ℕ). n ≤ most) (ltb most (little_endian_at frame at 2)) most (little_endian_at frame at 2) (λ t. omega arith) (λ t. omega (arith, ltb-false))
-
--- the frame written with what a step gave back
-pub step-written : (frame : List ℕ) (l after : Lent) (map : MapName) (session : Session) (s : Stepped) (one two three : List ℕ)
-    → map ≡ map_in frame → session ≡ session_in frame → step_with after s ≡ step_of (map_of map) (record_in frame) (machine_of l session)
-    → one ≡ with_session s.session frame → two ≡ with_answer s.code s.value one → three ≡ with_memory after.cells after.copy two
-    → three ≡ frame_on l frame
-step-written frame l after map session s one two three m r done a b c =
-    c
-    ∙ ap (with_memory after.cells after.copy) (b ∙ ap (with_answer s.code s.value) a)
-    ∙ ap (λ (x : FrameStep). frame_with x frame) (done ∙ ap₂ (λ (n : MapName) (x : Session). step_of (map_of n) (record_in frame) (machine_of l x)) m r)
 
 -- what is lent holds the words of the frame
 pub step-filled : (frame cells copy constants after : List ℕ) (n m k : ℕ)
