@@ -77,9 +77,6 @@ rotate-halves a b l =
 abbrev pub topped : ℕ → ℕ
 topped a = top 14 a * 2 ^ 56 + a % 2 ^ 56
 
-pub topped-lt : (a : ℕ) → topped a < 2 ^ 64
-topped-lt a = digits_lt {m = 256} (top_lt 14 a) (mod-lt a (pow_pos 56))
-
 top-halves : (a b : ℕ) → b < 2 ^ 64 → substitute_top (a * 2 ^ 64 + b) ≡ topped a * 2 ^ 64 + b
 unfolding substitute_top
 top-halves a b l =
