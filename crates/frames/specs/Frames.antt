@@ -16,7 +16,7 @@
 --
 -- Every other byte comes back as it was: the map and the lengths, bytes 108 and 109, 4264 to 4523, the constants, and what an area has past what is lent.
 use Rattle.std.specs.Prelude.{ℕ, ◌+◌, Bool, not, List, [], ◌∷◌, eqb, ltb, take, drop}
-use Rattle.basics.specs.Choice.{if◌then◌else◌}
+use Rattle.basics.specs.Choice.{when◌then◌else◌}
 use Rattle.basics.specs.Range.{listed}
 use Rattle.partitions.specs.declared.MapName.{MapName}
 use Rattle.partitions.specs.declared.MapName.TheVariants.{Map1, Map2}
@@ -39,15 +39,15 @@ use Rattle.frames.specs.Bytes.{numbers_at, bytes_of, all_bytes, zeros, ◌from�
 -- ---- what goes in
 
 unfoldable pub map_in : List ℕ → MapName
-map_in frame = if eqb (byte_at frame 0) 2 then Map2 else Map1
+map_in frame = when eqb (byte_at frame 0) 2 then Map2 else Map1
 
 unfoldable pub phase_of : ℕ → Phase
 phase_of number =
-    if eqb number 1 then Ready
-    else if eqb number 2 then Inert
-    else if eqb number 4 then Dead BitCleared
-    else if eqb number 6 then Dead DigestFailed
-    else if eqb number 7 then Dead LifeCycleFailed
+    when eqb number 1 then Ready
+    else when eqb number 2 then Inert
+    else when eqb number 4 then Dead BitCleared
+    else when eqb number 6 then Dead DigestFailed
+    else when eqb number 7 then Dead LifeCycleFailed
     else Off
 
 -- the entry i of the read locks
@@ -66,7 +66,7 @@ session_in frame =
 
 -- how many words are lent, by the number at a place, of an area that has `most`
 unfoldable pub lent_in : List ℕ → ℕ → ℕ → ℕ
-lent_in frame at most = if ltb most (little_endian_at frame at 2) then most else little_endian_at frame at 2
+lent_in frame at most = when ltb most (little_endian_at frame at 2) then most else little_endian_at frame at 2
 
 abbrev pub cells_in : List ℕ → List ℕ
 cells_in frame = numbers_at frame 144 2 (lent_in frame 104 1030)
@@ -117,7 +117,7 @@ phase_number Inert = 2
 phase_number (Dead reason) = reason_code reason
 
 unfoldable pub lock_byte : Bool → ℕ
-lock_byte locked = if locked then 1 else 0
+lock_byte locked = when locked then 1 else 0
 
 unfoldable pub lock_bytes : List Bool → List ℕ
 lock_bytes [] = []

@@ -2,7 +2,7 @@
 use mathlib.Core.Path.{◌≡◌, sym, ap, ap₂, ◌∙◌}
 use mathlib.Core.List.{List, [], ◌∷◌, ◌++◌}
 use Prim.Native.Nat.{ℕ, zero, suc, ◌-◌, ◌/◌, ◌%◌, ◌^◌, ◌≤◌, ◌<◌}
-use native.Mathlib.Nat.{sub-zero, pow-zero, pow-suc, pow-succ', div-one, div-div-eq-div-mul}
+use native.Mathlib.Nat.{pow-zero, pow-suc, pow-succ', div-one, div-div-eq-div-mul}
 use native.Mathlib.Omega.{arith}
 use lib.ListN.{length, set, drop, length-set}
 use lib.Seq.{drop-cons, drop-length, drop-set-lt, get_or-set_same}
@@ -15,10 +15,6 @@ unfolding digits
 digits-none b x part =
     let z : length part - length part ≡ 0 = omega arith in
     rw z (drop-length part, sym (rw pow-zero (div-one x)))
-
-pub digits-whole : (b x i n : ℕ) (part : List ℕ) → i ≤ 0 → drop i part ≡ digits b (n - i) x → part ≡ digits b n x
-digits-whole b x zero n part h known = rw sub-zero at known
-digits-whole b x (suc i) n part h known = absurd (omega arith)
 
 module _ (b x i n : ℕ) (part : List ℕ) (rest d : ℕ) (some : 0 < i) (within : i ≤ length part) (whole : length part ≡ n) (left : rest ≡ x / b ^ (n - i)) where
   pub digits_more : drop i part ≡ digits b (n - i) x → d ≡ digit_byte (rest % b) → drop (i - 1) (set part (i - 1) d) ≡ digits b (n - (i - 1)) x

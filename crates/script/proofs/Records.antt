@@ -1,9 +1,8 @@
 -- Laws of records. The idea: the tests of `next_at` are taken apart once, and every law reads what led to an answer.
 use Prim.Native.Nat.{ℕ, ◌+◌, ◌≤◌, ◌<◌}
-use mathlib.Core.Path.{◌≡◌, refl, sym, ap, ◌∙◌}
+use mathlib.Core.Path.{◌≡◌, sym, ap, ◌∙◌}
 use mathlib.Core.Bool.{Bool, true, false, ◌||◌}
 use mathlib.Core.List.{List}
-use mathlib.Core.Logic.{⊎_elim, ◌⊎◌}
 use native.Mathlib.Omega.{arith}
 use lib.Dec.{eqb}
 use lib.ListN.{length}
@@ -17,7 +16,7 @@ use Rattle.model.specs.declared.Command.{Command}
 use Rattle.script.specs.declared.Refusal.TheVariants.{UnknownKind, CutShort, TooLong}
 use Rattle.script.specs.declared.Reading.{Reading}
 use Rattle.script.specs.declared.Reading.TheVariants.{Record, End, Refused}
-use Rattle.script.specs.Records.{kind_of, unknown, body_length, byte_at, command_at, next_at, place_after}
+use Rattle.script.specs.Records.{kind_of, unknown, body_length, byte_at, command_at, next_at}
 use Rattle.script.specs.contracts.Reading as N
 
 -- ---- `next_at` test by test, as code goes through it
@@ -51,15 +50,6 @@ module _ (s : List ℕ) (p : ℕ) where
         pub whole-record : next ≤ length s → next_at s p ≡ Record (command_at s kind (p + 1)) next
         unfolding next_at
         whole-record h = if-false _ _ (le-ltb _ _ short) ∙ if-false _ _ (lt-leb _ _ inside) ∙ if-false _ _ known ∙ if-false _ _ (le-ltb _ _ h)
-
--- what the other arm of a `let .. else` knows: the answer is no record
-abbrev pub Other : Reading → Type 0
-Other n = (tag_of N.the_type n ≡ 1) ⊎ (tag_of N.the_type n ≡ 2)
-
-pub other_place : (n : Reading) (at : ℕ) → Other n → at ≡ place_after n at
-other_place (Record r p) at h = ⊎_elim (λ w. omega arith) (λ w. omega arith) h
-other_place End at h = refl
-other_place (Refused w p) at h = refl
 
 either : (b : Bool) {x y : ℕ} → x ≤ 17 → y ≤ 17 → (when b then x else y) ≤ 17
 either b h k = if-both (λ (n : ℕ). n ≤ 17) b _ _ (λ e. h) (λ e. k)
