@@ -7,7 +7,8 @@ mod hashes;
 
 ghost use Rattle.std.specs.Prelude.{◌≡◌, ◌≤◌, ◌<◌, length};
 
-use libc::{STDIN_FILENO, STDOUT_FILENO};
+use std::io;
+use std::io::{Read, Write};
 use words::{Programmed, Rule};
 
 #[derive(Clone, Copy)]
@@ -185,14 +186,14 @@ fn put_words(out: &mut [u8; 128], words: &[u16; 48]) {
     }
 }
 
-fn write(out: &[u8; 128]) -> bool {
-    io::write_all(STDOUT_FILENO, out)
+fn write<W: Write>(writer: &mut W, out: &[u8; 128]) -> bool {
+    writer.write_all(out).is_ok()
 }
 
 // Reads a case and answers it; false where no whole case came or the answer was not taken.
-fn answer_next() -> bool {
+fn answer_next<R: Read, W: Write>(reader: &mut R, writer: &mut W) -> bool {
     let mut case = [0u8; 256];
-    if io::read_full(STDIN_FILENO, &mut case) < 256 {
+    if reader.read_exact(&mut case).is_err() {
         return false;
     }
     let answered = answer_to(&case);
@@ -200,17 +201,17 @@ fn answer_next() -> bool {
     let mut out = [0u8; 128];
     put_number(&mut out, answered.result);
     put_words(&mut out, &words);
-    write(&out)
+    write(writer, &out)
 }
 
 // Nothing says that the input ends, so the cases are counted down, from a number that no run uses up.
-fn answer_all() {
+fn answer_all<R: Read, W: Write>(reader: &mut R, writer: &mut W) {
     let mut cases = u64::MAX;
-    while cases > 0 && answer_next() {
+    while cases > 0 && answer_next(reader, writer) {
         cases -= 1;
     }
 }
 
-fn main() {
-    answer_all();
+fn main(rt: HostRuntime) {
+    answer_all(&mut rt.stdin(), &mut io::writer(&rt));
 }
