@@ -4,7 +4,8 @@
 
 ghost use Rattle.std.specs.Prelude.{◌≡◌, length};
 
-use libc::{STDIN_FILENO, STDOUT_FILENO};
+use std::io;
+use std::io::{Read, Write};
 
 fn frame_buffer() -> [u8; 5120]
     ensures { 5120 ≡ length result }
@@ -12,28 +13,28 @@ fn frame_buffer() -> [u8; 5120]
     [0; 5120]
 }
 
-fn write(frame: &[u8; 5120]) -> bool {
-    io::write_all(STDOUT_FILENO, frame)
+fn write<W: Write>(writer: &mut W, frame: &[u8; 5120]) -> bool {
+    writer.write_all(frame).is_ok()
 }
 
 // Reads a frame and writes it after its command; false where no whole frame came or what was written was not taken.
-fn step_next() -> bool {
+fn step_next<R: Read, W: Write>(reader: &mut R, writer: &mut W) -> bool {
     let mut frame = frame_buffer();
-    if io::read_full(STDIN_FILENO, &mut frame) < 5120 {
+    if reader.read_exact(&mut frame).is_err() {
         return false;
     }
     frames::step(&mut frame);
-    write(&frame)
+    write(writer, &frame)
 }
 
 // Nothing says that the input ends, so the frames are counted down, from a number that no run uses up.
-fn step_all() {
+fn step_all<R: Read, W: Write>(reader: &mut R, writer: &mut W) {
     let mut left = u64::MAX;
-    while left > 0 && step_next() {
+    while left > 0 && step_next(reader, writer) {
         left -= 1;
     }
 }
 
-fn main() {
-    step_all();
+fn main(rt: HostRuntime) {
+    step_all(&mut rt.stdin(), &mut io::writer(&rt));
 }
