@@ -2,22 +2,23 @@
 // take a line, it writes no more of them, so that the end line only stands behind all lines, and says so on standard error.
 #![tactic(auto)]
 
-ghost use Rattle.std.specs.Prelude.{◌≡◌, ◌+◌, ◌≤◌, length, take};
-ghost use Rattle.io.specs.Counts.{IsPrefixLen};
+ghost use Rattle.std.specs.Prelude.{◌≡◌, ◌+◌, ◌≤◌, length, take, IfOk};
 
-use libc::{STDIN_FILENO, STDOUT_FILENO};
 use model::Session;
 use partitions::MapName;
+use std::alloc::{AllocError, Global};
+use std::io::{Read, Write};
+use std::rt::Files;
+use std::{fs, io};
 use transcript::Continuation;
 
 // More than there are records in the bytes of `script_buffer`.
 const MOST_RECORDS: u32 = 65538;
 
-// How many bytes of lines wait to be written, and whether all before them were.
+// How many bytes of lines wait to be written, where all before them were.
 #[derive(Clone, Copy)]
 struct Waiting {
     used: usize,
-    written: bool,
 }
 
 // Where a rehearsal stands.
@@ -69,17 +70,29 @@ fn lines_buffer() -> [u8; 4600]
     [0; 4600]
 }
 
-// Reads the start of a file; a missing one counts as empty.
-fn read_file(path: &[u8], bytes: &mut [u8]) -> usize
-    ensures { IsPrefixLen result bytes.new }
+// Reads until the bytes are full, the input ends or a read fails, and says how many bytes it put at their start.
+fn read_full<R: Read>(reader: &mut R, bytes: &mut [u8]) -> usize
+    ensures { (result ≤ length bytes.new) × (result ≡ length (take result bytes.new)) }
 {
-    let file = os::open_read(path);
-    if file < 0 {
-        return 0;
+    let mut done = 0;
+    while done < bytes.len() {
+        match reader.read(&mut bytes[done..]) {
+            Ok(0) => break,
+            Ok(n) => done += n,
+            Err(_) => break,
+        }
     }
-    let n = io::read_full(file, bytes);
-    libc::close(file);
-    n
+    done
+}
+
+// Reads the start of a file; a missing one counts as empty.
+fn read_file<R: Files>(rt: &R, path: &str, bytes: &mut [u8]) -> usize
+    ensures { (result ≤ length bytes.new) × (result ≡ length (take result bytes.new)) }
+{
+    match fs::open(rt, path) {
+        Ok(mut file) => read_full(&mut file, bytes),
+        Err(_) => 0,
+    }
 }
 
 // Fills words from bytes, and says how many they are.
@@ -90,19 +103,19 @@ fn words_of(bytes: &[u8], words: &mut [u16]) -> usize
 }
 
 // Fills words from a file, and says how many it has. A file with more words than fit is too long in any case.
-fn read_words(path: &[u8], words: &mut [u16]) -> usize
+fn read_words<R: Files>(rt: &R, path: &str, words: &mut [u16]) -> usize
     ensures { (result ≤ length words.new) × (result ≡ length (take result words.new)) }
 {
     let mut bytes = file_buffer();
-    let n = read_file(path, &mut bytes);
+    let n = read_file(rt, path, &mut bytes);
     words_of(&bytes[..n], words)
 }
 
-// Writes the lines that wait; false where not all were taken.
-fn write_out(out: &[u8], used: usize) -> bool
+// Writes the lines that wait.
+fn write_out<W: Write>(writer: &mut W, out: &[u8], used: usize) -> io::Result<()>
     requires { used ≤ length out.now }
 {
-    io::write_all(STDOUT_FILENO, &out[..used])
+    writer.write_all(&out[..used])
 }
 
 // Stores a line.
@@ -115,20 +128,22 @@ fn store(out: &mut [u8], at: usize, line: &[u8; 23])
 }
 
 // Adds a line to those that wait, which are written first where it does not fit.
-fn gather(out: &mut [u8], used: usize, line: &[u8; 23]) -> Waiting
+fn gather<W: Write>(
+    writer: &mut W,
+    out: &mut [u8],
+    used: usize,
+    line: &[u8; 23],
+) -> io::Result<Waiting>
     requires { (used ≤ length out.old) × (23 ≤ length out.old) }
-    ensures { result.used ≤ length out.old }
+    ensures { IfOk result (λ waiting. waiting.used ≤ length out.old) }
 {
     if 23 <= out.len() - used {
         store(out, used, line);
-        return Waiting {
-            used: used + 23,
-            written: true,
-        };
+        return Ok(Waiting { used: used + 23 });
     }
-    let written = write_out(&out[..], used);
+    write_out(writer, out, used)?;
     store(out, 0, line);
-    Waiting { used: 23, written }
+    Ok(Waiting { used: 23 })
 }
 
 // More follows.
@@ -141,7 +156,8 @@ fn goes_on(continuation: Continuation) -> bool {
 }
 
 // Runs a record, and gathers its line where it has one.
-fn run_one(
+fn run_one<W: Write>(
+    writer: &mut W,
     script: &[u8],
     cells: &mut [u16],
     copy: &mut [u16],
@@ -149,48 +165,46 @@ fn run_one(
     map: MapName,
     out: &mut [u8],
     at: Progress,
-) -> Progress
+) -> io::Result<Progress>
     requires { (at.waiting.used ≤ length out.old) × (23 ≤ length out.old) }
-    ensures { result.waiting.used ≤ length out.old }
+    ensures { IfOk result (λ after. after.waiting.used ≤ length out.old) }
 {
     let t = transcript::run_record(script, at.place, cells, copy, constants, map, at.session);
     let continuation = t.continuation;
     let session = t.session;
     let before = at.waiting;
     if let Continuation::Ends = continuation {
-        return Progress {
+        return Ok(Progress {
             session,
             place: t.place,
             waiting: before,
             going: false,
-        };
+        });
     }
     let line = t.line;
-    let waiting = gather(out, before.used, &line);
-    Progress {
+    let waiting = gather(writer, out, before.used, &line)?;
+    Ok(Progress {
         session,
         place: t.place,
         waiting,
-        going: goes_on(continuation) && waiting.written,
-    }
+        going: goes_on(continuation),
+    })
 }
 
 // Runs records until one is the last, or its line is not taken.
-fn run_records(
+fn run_records<W: Write>(
+    writer: &mut W,
     script: &[u8],
     cells: &mut [u16],
     copy: &mut [u16],
     constants: &[u16],
     map: MapName,
     out: &mut [u8],
-) -> Progress
+) -> io::Result<Progress>
     requires { 23 ≤ length out.old }
-    ensures { result.waiting.used ≤ length out.old }
+    ensures { IfOk result (λ after. after.waiting.used ≤ length out.old) }
 {
-    let waiting = Waiting {
-        used: 0,
-        written: true,
-    };
+    let waiting = Waiting { used: 0 };
     let mut at = Progress {
         session: Session::fresh(),
         place: 0,
@@ -199,65 +213,82 @@ fn run_records(
     };
     let mut left = MOST_RECORDS;
     while left > 0 && at.going {
-        at = run_one(script, cells, copy, constants, map, out, at);
+        at = run_one(writer, script, cells, copy, constants, map, out, at)?;
         left -= 1;
     }
-    at
+    Ok(at)
 }
 
-// Writes the end line; false where it was not taken.
-fn write_end(count: u64) -> bool {
+// Writes the end line.
+fn write_end<W: Write>(writer: &mut W, count: u64) -> io::Result<()> {
     let end = script::end_line(count);
     let bytes = end.bytes;
     let len = end.len;
-    io::write_all(STDOUT_FILENO, &bytes[..len])
+    writer.write_all(&bytes[..len])
 }
 
-// Writes the lines of a script and its end line; false where not all were taken.
-fn rehearse(
+// Writes the lines of a script and its end line; it stops at the first that is not taken.
+fn rehearse<W: Write>(
+    writer: &mut W,
     script: &[u8],
     cells: &mut [u16],
     copy: &mut [u16],
     constants: &[u16],
     map: MapName,
-) -> bool {
+) -> io::Result<()> {
     let mut out = lines_buffer();
-    let at = run_records(script, cells, copy, constants, map, &mut out);
-    let waiting = at.waiting;
-    if waiting.written {
-        let written = write_out(&out, waiting.used);
-        if written {
-            return write_end(transcript::line_count(script));
-        }
-    }
-    false
+    let at = run_records(writer, script, cells, copy, constants, map, &mut out)?;
+    write_out(writer, &out, at.waiting.used)?;
+    write_end(writer, transcript::line_count(script))
 }
 
 // The same over cells and constants, from a fresh session record and a zero copy.
-fn rehearse_on(script: &[u8], cells: &mut [u16], constants: &[u16], map: MapName) -> bool {
+fn rehearse_on<W: Write>(
+    writer: &mut W,
+    script: &[u8],
+    cells: &mut [u16],
+    constants: &[u16],
+    map: MapName,
+) -> io::Result<()> {
     let mut copy = copy_buffer();
     let words = map.words();
-    rehearse(script, cells, &mut copy[..words], constants, map)
+    rehearse(writer, script, cells, &mut copy[..words], constants, map)
 }
 
-// Rehearses standard input over `image.bin` and `constants.bin`; the image's size decides the map.
-fn main() {
+// The system's text for an error, without the number that is printed behind it.
+fn reason(alloc: Global, error: io::Error) -> Result<String, AllocError> {
+    let mut text = format!(in alloc; "{error}")?;
+    if let Some(code) = error.raw_os_error() {
+        let number = format!(in alloc; " (os error {code})")?;
+        if let Some(words) = text.as_str().strip_suffix(number.as_str()) {
+            text = String::from_str(alloc, words)?;
+        }
+    }
+    Ok(text)
+}
+
+// Rehearses standard input over `image.bin` and `constants.bin`; the image's size decides the map. Standard output that does not take a line is named on
+// standard error, and no fault of the rehearsal.
+fn main(rt: HostRuntime) -> io::Result<()> {
     let mut script = script_buffer();
-    let n = io::read_full(STDIN_FILENO, &mut script);
+    let n = read_full(&mut rt.stdin(), &mut script);
     let mut image = file_buffer();
-    let image_count = read_file(b"image.bin", &mut image);
+    let image_count = read_file(&rt, "image.bin", &mut image);
     let mut cells = cells_buffer();
     let cell_count = words_of(&image[..image_count], &mut cells);
     let mut constants = constants_buffer();
-    let constant_count = read_words(b"constants.bin", &mut constants);
+    let constant_count = read_words(&rt, "constants.bin", &mut constants);
     let map = transcript::map_for(&image[..image_count]);
     let written = rehearse_on(
+        &mut io::writer(&rt),
         &script[..n],
         &mut cells[..cell_count],
         &constants[..constant_count],
         map,
     );
-    if !written {
-        os::fail(b"bench: standard output");
+    if let Err(error) = written {
+        let why = reason(rt.alloc(), error)?;
+        eprintln!(rt; "bench: standard output: {why}")?;
     }
+    Ok(())
 }
