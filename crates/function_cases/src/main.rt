@@ -204,11 +204,12 @@ fn answer_next<R: Read, W: Write>(reader: &mut R, writer: &mut W) -> bool {
     write(writer, &out)
 }
 
-// Nothing says that the input ends, so the cases are counted down, from a number that no run uses up.
+// Nothing says that the input ends, so the cases are counted, up to a number that no run reaches.
 fn answer_all<R: Read, W: Write>(reader: &mut R, writer: &mut W) {
-    let mut cases = u64::MAX;
-    while cases > 0 && answer_next(reader, writer) {
-        cases -= 1;
+    for _ in 0..u64::MAX {
+        if !answer_next(reader, writer) {
+            return;
+        }
     }
 }
 

@@ -27,11 +27,12 @@ fn step_next<R: Read, W: Write>(reader: &mut R, writer: &mut W) -> bool {
     write(writer, &frame)
 }
 
-// Nothing says that the input ends, so the frames are counted down, from a number that no run uses up.
+// Nothing says that the input ends, so the frames are counted, up to a number that no run reaches.
 fn step_all<R: Read, W: Write>(reader: &mut R, writer: &mut W) {
-    let mut left = u64::MAX;
-    while left > 0 && step_next(reader, writer) {
-        left -= 1;
+    for _ in 0..u64::MAX {
+        if !step_next(reader, writer) {
+            return;
+        }
     }
 }
 

@@ -1,4 +1,3 @@
-#![tactic(auto)]
 // The published vectors: of PRESENT with a key of 128 bits, a line for each with the key, the block, the block encrypted, and that decrypted again; then those
 // of the hashes.
 #![tactic(auto)]
