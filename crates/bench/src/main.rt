@@ -2,7 +2,9 @@
 // take a line, it writes no more of them, so that the end line only stands behind all lines, and says so on standard error.
 #![tactic(auto)]
 
-ghost use Rattle.std.specs.Prelude.{◌≡◌, ◌+◌, ◌≤◌, length, take, IfOk};
+ghost use Rattle.std.specs.Prelude.{◌≡◌, ◌+◌, ◌≤◌, ◌++◌, length, take, IfOk, OnOk};
+ghost use Rattle.std.specs.Io.KnownBytes.{Appends, Consumes};
+ghost use Rattle.script.specs.Lines.{end_line};
 
 use model::Session;
 use partitions::MapName;
@@ -72,7 +74,8 @@ fn lines_buffer() -> [u8; 4600]
 
 // Reads until the bytes are full, the input ends or a read fails, and says how many bytes it put at their start.
 fn read_full<R: Read>(reader: &mut R, bytes: &mut [u8]) -> usize
-    ensures { (result ≤ length bytes.new) × (result ≡ length (take result bytes.new)) }
+    ensures counts { (result ≤ length bytes.new) × (result ≡ length (take result bytes.new)) }
+    ensures reads { Consumes (R.remaining reader.old) (R.remaining reader.new) (take result bytes.new) }
 {
     let mut done = 0;
     while done < bytes.len() {
@@ -114,6 +117,7 @@ fn read_words<R: Files>(rt: &R, path: &str, words: &mut [u16]) -> usize
 // Writes the lines that wait.
 fn write_out<W: Write>(writer: &mut W, out: &[u8], used: usize) -> io::Result<()>
     requires { used ≤ length out.now }
+    ensures { OnOk result (Appends (W.contents writer.old) (W.contents writer.new) (take used out.now)) }
 {
     writer.write_all(&out[..used])
 }
@@ -121,10 +125,9 @@ fn write_out<W: Write>(writer: &mut W, out: &[u8], used: usize) -> io::Result<()
 // Stores a line.
 fn store(out: &mut [u8], at: usize, line: &[u8; 23])
     requires { at + 23 ≤ length out.old }
+    ensures { take (at + 23) out.new ≡ take at out.old ++ line.now }
 {
-    for i in 0..23 {
-        out[at + i] = line[i];
-    }
+    out[at..at + 23].copy_from_slice(line);
 }
 
 // Adds a line to those that wait, which are written first where it does not fit.
@@ -220,7 +223,9 @@ fn run_records<W: Write>(
 }
 
 // Writes the end line.
-fn write_end<W: Write>(writer: &mut W, count: u64) -> io::Result<()> {
+fn write_end<W: Write>(writer: &mut W, count: u64) -> io::Result<()>
+    ensures { OnOk result (Appends (W.contents writer.old) (W.contents writer.new) (end_line count)) }
+{
     let end = script::end_line(count);
     let bytes = end.bytes;
     let len = end.len;
