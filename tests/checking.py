@@ -1,23 +1,26 @@
 """What the programs share that put changes to the checker: tests/edits/run, tests/wrong_machines/run, tests/definitions/run and tests/mutation/run.
 
-Copies of the tree with what is proved of it, edits of their files, commands with a limit of time, what the checker says, and where an edit has to be
+Copies of the tree outside of the repository, edits of their files, commands with a limit of time, what the checker says, and where an edit has to be
 refused.
 """
 import collections
+import contextlib
+import fcntl
+import hashlib
 import os
 import re
 import shutil
 import signal
 import subprocess
+import tempfile
 
 ROOT = os.path.dirname(os.path.dirname(os.path.abspath(__file__)))
-PROVED = ("rlib", "stamp", "log")  # what `rt` keeps of a proved crate, below target/
+SOURCES = ("src", "specs", "proofs")  # what a check of a crate reads
 NOT_PROVED = "logic=not-proved"
-MEMORY, SPACE = "/dev/shm", 4 << 30  # a folder in memory, and the bytes that have to be free there
 # First lines of errors that are about no fact: a name that is not in scope, a place of a proof file that is not there or is another, a proof that was
 # not tried.
 UNFIT = re.compile(
-    r"is not in scope|is already a name|no `mod` line|has no `Need-|has no field|one has `\S+\.Lts\.After-|explicit argument patterns|was not admitted"
+    r"is not in scope|is already a name|no `mod` line|has no `|has no field|one has `\S+\.After-|explicit argument patterns|was not admitted"
 )
 
 # A text of edits: what its comments say, its lines with a head of their own, and its edits, each a file, an old text and a new one.
@@ -98,37 +101,89 @@ def restore(before):
         write(at, source)
 
 
-# ---- copies of the proved tree
+# ---- copies of the tree
 
 
-def proved_copy(copy):
-    """A copy of the crates and of what is proved of them, without their edits."""
-    shutil.rmtree(copy, ignore_errors=True)
-    os.makedirs(os.path.join(copy, "target"))
-    shutil.copy(os.path.join(ROOT, "crates.txt"), copy)
-    shutil.copytree(os.path.join(ROOT, "crates"), os.path.join(copy, "crates"), ignore=shutil.ignore_patterns("must-fail"))
-    for part in PROVED:
-        shutil.copytree(os.path.join(ROOT, "target", part), os.path.join(copy, "target", part))
+def folder_of_copies(name):
+    """Where a program has its copies: among the temporary files, for `rt ci` refuses a tree with another crates.txt in it. The same folder in each run, so
+    that what `rt` notes of the places where it keeps work stays short."""
+    return os.path.join(tempfile.gettempdir(), "checks-" + hashlib.sha256(ROOT.encode()).hexdigest()[:12], name)
+
+
+@contextlib.contextmanager
+def copies(folder):
+    """A folder of copies, empty at first and gone afterwards. A second run waits for the first."""
+    os.makedirs(os.path.dirname(folder), exist_ok=True)
+    with open(folder + ".lock", "w") as lock:
+        fcntl.flock(lock, fcntl.LOCK_EX)
+        shutil.rmtree(folder, ignore_errors=True)
+        os.makedirs(folder)
+        try:
+            yield folder
+        finally:
+            shutil.rmtree(folder, ignore_errors=True)
+
+
+def linked(folder, to):
+    """Makes `to` a copy of a folder, whatever it was. What the checker made has the same file under a second name, since it replaces such a file and writes
+    into none."""
+
+    def copied(one, other):
+        if one.endswith(".oantt") or "/out/rlib/" in one:
+            with contextlib.suppress(OSError):
+                return os.link(one, other)
+        return shutil.copy2(one, other)
+
+    shutil.rmtree(to, ignore_errors=True)
+    return shutil.copytree(folder, to, copy_function=copied)
+
+
+def copied_sources(here, there):
+    """Copies what a check of a crate reads."""
+    for part in SOURCES:
+        if os.path.isdir(os.path.join(here, part)):
+            linked(os.path.join(here, part), os.path.join(there, part))
+
+
+def copied_tree(copy):
+    """A copy of the sources of all crates, without their edits."""
+    for name in ("crates.txt", "HANDLES"):
+        if os.path.exists(os.path.join(ROOT, name)):
+            write(os.path.join(copy, name), read(os.path.join(ROOT, name)))
+    for name in crates():
+        copied_sources(os.path.join(ROOT, "crates", name), os.path.join(copy, "crates", name))
     return copy
 
 
-def folder_of_modules(copy):
-    """The name of the folder in which this build of the checker keeps the modules that it has checked, as the first crate's check makes it."""
-    first = next(iter(crates()))
-    dev(copy, first, 60)
-    kept = os.path.join(copy, "target", "inc", first)
-    found = os.listdir(kept) if os.path.isdir(kept) else []
-    return found[0] if len(found) == 1 else ""
+def kept(copy, name):
+    """What the checker keeps of a crate in a copy."""
+    return os.path.join(copy, "crates", name, "out")
 
 
-def put_back(copy, crate, modules):
-    """Puts what `rt dev` keeps of a crate back to what is proved, which the crate's rlib has, so that it checks what an edit reaches and no more, whatever
-    was tried before. Where the rlib has nothing of the kind, it checks the whole crate: the same verdict, and it takes longer."""
-    kept = os.path.join(copy, "target", "inc", crate)
-    proved = os.path.join(copy, "target", "rlib", crate + ".rlib", "toolchain", "checked")
-    shutil.rmtree(kept, ignore_errors=True)
-    if modules and os.path.isdir(proved):
-        shutil.copytree(proved, os.path.join(kept, modules))
+def proved_copy(copy):
+    """A copy of the sources of all crates, and of what the checker keeps of them."""
+    copied_tree(copy)
+    put_back(copy, crates())
+    return copy
+
+
+def put_back(copy, names):
+    """Puts what the checker keeps of these crates in a copy back to what is proved of the tree, so that it checks what an edit reaches and no more, whatever
+    was tried before."""
+    for name in names:
+        if os.path.isdir(kept(ROOT, name)):
+            linked(kept(ROOT, name), kept(copy, name))
+        else:
+            shutil.rmtree(kept(copy, name), ignore_errors=True)
+
+
+def above(name):
+    """A crate, and those that stand on it."""
+    found = [name]
+    for other, below in crates().items():
+        if any(n in below for n in found):
+            found.append(other)
+    return found
 
 
 # ---- the checker
@@ -147,17 +202,9 @@ def command(words, folder, limit, late=NOT_PROVED, env=None):
     return ran.returncode, said.decode(errors="replace")
 
 
-def surroundings():
-    """The environment of a check. The checker copies the libraries that it reads, up to 200 MB, to a folder for temporary files: to one in memory, where it
-    has space and no other is asked for."""
-    if "TMPDIR" in os.environ or not os.access(MEMORY, os.W_OK) or shutil.disk_usage(MEMORY).free < SPACE:
-        return None
-    return dict(os.environ, TMPDIR=MEMORY)
-
-
-def dev(copy, crate, limit, late=NOT_PROVED):
-    """What `rt dev` says of a crate in a copy."""
-    return command(["rt", "dev", crate], copy, limit, late, surroundings())[1]
+def check(copy, crate, limit, late=NOT_PROVED):
+    """What `rt check` says of a crate in a copy."""
+    return command(["rt", "check"], os.path.join(copy, "crates", crate), limit, late)[1]
 
 
 def verdict_of(said):
@@ -170,33 +217,30 @@ def errors_in(said):
     return re.findall(r"(?m)^(\S+?)(?::\d+)*: error: (.*(?:\n  .*)*)", said)
 
 
-def first_refusal(said):
-    """Path and text of the first error, or of the first note on a place where there is none: a function whose proof the checker itself did not find."""
-    return (errors_in(said) or re.findall(r"(?m)^note: (\S+?):\d+:\d+: (.*)", said) or [("", "")])[0]
+def unfit(path, text):
+    """Whether an error is surely about no fact: one of the kinds of UNFIT, or one in a definition, before any proof."""
+    return path.startswith("specs/") or UNFIT.search(text) is not None
 
 
-def inside(path, crate):
-    """A path as it is inside a crate, be it the crate or the copy of it that `rt must-fail` makes."""
-    return re.sub(r"^.*/(?:crates/%s|must-fail/%s/\w+)/" % (crate, crate), "", path)
+# ---- what `rt ci` and `rt must-fail` print of an edit
+REFUSED = re.compile(r"refused, as it must be(?: \((?P<only>only [^)]*)\))?(?:: (?:note: )?(?:\./)?(?P<path>[^:]+):\d+:\d+:(?: error:)? ?(?P<text>.*))?")
 
 
-def refused_at(said, crate):
-    """Where an edit of a crate is refused: the file inside the crate, and the first line of what is said of it."""
-    path, text = first_refusal(said)
-    return inside(path, crate), text.split("\n")[0]
+def told_of_edits(said):
+    """What is said of each edit, by crate and name; every other line is another one's."""
+    return {(m[1], m[2]): m[3] for m in re.finditer(r"(?m)^rt: must-fail (\w+)/([\w.-]+)\.edit: (.*)$", said)}
 
 
-def fault_of(said, crate, place):
-    """What is wrong where the checker does not refuse an edit of a crate in the file that it has to be refused at, because of a fact.
+def fault_of(told, place):
+    """What is wrong where the checker does not refuse an edit in the file that it has to be refused at, because of a fact.
 
     It can't tell that an error is about a fact; it tells those that surely are not: the kinds of UNFIT, and an error in a definition before any proof."""
-    verdict = verdict_of(said)
-    if verdict == "proved":
-        return "not refused: the crate is still proved"
-    if verdict != "not-proved":
-        told = said.strip().split("\n")
-        return "it does not reach the prover: " + ([line for line in told if ": error" in line] or told[-1:])[0]
-    found, text = refused_at(said, crate)
-    if found.startswith("specs/") or UNFIT.search(text):
-        return "refused at %s, and not because of a fact: %s" % (found, text)
-    return "" if found == place else "refused at %s, and it names %s: %s" % (found or "no place", place, text)
+    if told is None:
+        return "nothing is said of it"
+    refused = REFUSED.match(told)
+    if not refused:
+        return told
+    found, text = refused["path"] or "no place", refused["text"] or ""
+    if refused["only"] or unfit(found, text):
+        return "refused at %s, and not because of a fact: %s" % (found, text or refused["only"])
+    return "" if found == place else "refused at %s, and it names %s: %s" % (found, place, text)
