@@ -12,6 +12,7 @@ import re
 import shutil
 import signal
 import subprocess
+import sys
 import tempfile
 
 ROOT = os.path.dirname(os.path.dirname(os.path.abspath(__file__)))
@@ -177,15 +178,6 @@ def put_back(copy, names):
             shutil.rmtree(kept(copy, name), ignore_errors=True)
 
 
-def above(name):
-    """A crate, and those that stand on it."""
-    found = [name]
-    for other, below in crates().items():
-        if any(n in below for n in found):
-            found.append(other)
-    return found
-
-
 # ---- the checker
 
 
@@ -205,6 +197,15 @@ def command(words, folder, limit, late=NOT_PROVED, env=None):
 def check(copy, crate, limit, late=NOT_PROVED):
     """What `rt check` says of a crate in a copy."""
     return command(["rt", "check"], os.path.join(copy, "crates", crate), limit, late)[1]
+
+
+def prove(names):
+    """Has the checker prove crates of the tree, with those below them, over what it kept; what copies begin with."""
+    whole = set(names) == set(crates())
+    for words, folder in [(["rt", "all", "check"], ROOT)] if whole else [(["rt", "check"], os.path.join(ROOT, "crates", name)) for name in names]:
+        status, said = command(words, folder, None)
+        if status != 0:
+            sys.exit("%s in %s does not pass:\n%s" % (" ".join(words), folder, said))
 
 
 def verdict_of(said):

@@ -1,6 +1,6 @@
 """The changes that the mutation run tries: one operator, constant, comparison, argument order or statement of a Rattle source at a time.
 
-Comments, imports and contracts stay as they are: only what runs is changed.
+Comments, imports, attributes and contracts stay as they are: only what runs is changed.
 """
 import collections
 import re
@@ -36,6 +36,7 @@ def without_contracts(text):
 
 def code_of(source):
     text = blanked(source, r"//[^\n]*")
+    text = blanked(text, r"(?m)^ *#!?\[[^\n]*\]$")
     text = blanked(text, r"(?m)^(?:ghost )?use [^;]*;")
     return without_contracts(text)
 
