@@ -195,8 +195,8 @@ def command(words, folder, limit, late=NOT_PROVED, env=None):
 
 
 def check(copy, crate, limit, late=NOT_PROVED):
-    """What `rt check` says of a crate in a copy."""
-    return command(["rt", "check"], os.path.join(copy, "crates", crate), limit, late)[1]
+    """What `rt check` says of a crate in a copy. It runs on one processor, for other copies are checked meanwhile."""
+    return command(["rt", "check", "--jobs", "1"], os.path.join(copy, "crates", crate), limit, late)[1]
 
 
 def prove(names):
