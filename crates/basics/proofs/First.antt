@@ -74,13 +74,6 @@ pub record Scanned (test : ℕ → Bool) (n i : ℕ) : Type 0 where
   pub passed : (j : ℕ) → j < i → test j ≡ true
 
 module _ {test : ℕ → Bool} {n : ℕ} where
-  pub scanned-none : Scanned test n 0
-  scanned-none = record { within = omega arith; passed = λ j l. absurd (omega arith) }
-
-  pub scanned-more : {i : ℕ} → Scanned test n i → i < n → test i ≡ true → Scanned test n (i + 1)
-  scanned-more {i} s l t =
-      record { within = omega arith; passed = λ j h. by_cases (eqb j i) (λ e. rw (eqb-true j i e) t) (λ e. s.passed j (omega (arith, eqb-false j i e))) }
-
   pub scanned-all : {i : ℕ} → Scanned test n i → n ≤ i → first_not test 0 n ≡ none
   scanned-all s l = all_none test 0 n (λ j lo hi. s.passed j (omega arith))
 

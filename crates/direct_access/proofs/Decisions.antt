@@ -14,7 +14,8 @@ use Rattle.model.specs.declared.Command.TheVariants.{Read, Write, FrontRead, Dig
 use Rattle.model.specs.Session.{sensed_locked, read_locked}
 use Rattle.model.specs.Lent.{Machine}
 use Rattle.model.specs.Acts.{no_effect, Act, say, program, refuse}
-use Rattle.model.specs.Commands.{direct_rule, digest_rule, granule, write_denied, read_denied, front_read_denied, digest_denied, stored_form, read_value, computed_digest}
+use Rattle.model.specs.Commands.{direct_rule, digest_rule, granule, write_denied, read_denied, front_read_denied, digest_denied, stored_form}
+use Rattle.model.specs.Commands.{read_value, computed_digest}
 use Rattle.model.specs.Commands.{write_act, read_act, front_read_act, digest_act, command_act}
 use Rattle.model.specs.Claims.Terms.{not_power_up}
 use Rattle.chip.specs.Chip.{primitives}

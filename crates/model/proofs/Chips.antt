@@ -144,7 +144,8 @@ module _ (prims : Primitives) (map : Map) (F : fit map ≡ true) (H : ℕ → Ty
         let n = number_at map a in
         open-shown n j (λ v. shut n v r (not-locked s n (rw (secret n v) at z))) (word_number map F l lo hi)
 
-    front_same : (a : ℕ) → a < limit map → (rights_of (partition_at map a).kind).front ≡ true → granule (partition_at map a) k a ≡ granule (partition_at map a) k' a
+    front_same : (a : ℕ) → a < limit map → (rights_of (partition_at map a).kind).front ≡ true → granule (partition_at map a) k a
+        ≡ granule (partition_at map a) k' a
     unfolding granule partition_at
     front_same a l f =
         ap number_of (part_same k k' _ _ (λ j lo hi. g.at j (record { low = omega (arith, granule-within map F l); front = rw (word_number map F l lo hi) f })))

@@ -24,7 +24,8 @@ use Rattle.model.specs.Answers.{code_of}
 use Rattle.constants.specs.Constants.{raw_unlock_hash}
 use Rattle.model.specs.Lent.{Machine, Primitives, Lent}
 use Rattle.model.specs.Acts.{to_inert, Act, say, Performed, perform, with_comparison, after_program}
-use Rattle.model.specs.Commands.{life_cycle_rule, counter_at, state_at, move_act, transition_act, command_act, ready_act, hashes_to, stored_token, authorization}
+use Rattle.model.specs.Commands.{life_cycle_rule, counter_at, state_at, move_act, transition_act, command_act, ready_act, hashes_to, stored_token}
+use Rattle.model.specs.Commands.{authorization}
 use Rattle.model.specs.Commands.{Authorization, authorized_act, locked_token, token_authorization, free, by_token, class_of, transiting}
 use Rattle.model.specs.Step.{Step, unchanged, performed, act, obey, step, power_up}
 use Rattle.model.specs.Claims.Refusals.{judgement_code}

@@ -140,7 +140,8 @@ module _ (prims : Primitives) (map : Map) (F : fit map ≡ true) (n : ℕ) (D : 
     holds : Holds m
     sensed : is_ready m.session.phase ≡ true → sensed_at m.session n ≡ stored m
 
-  next-holds : (x : Command) (m : Machine) → ValidInputs map m → Holds m → data_not_written map n x (answer_to prims map x m) → Holds (machine_after prims map x m)
+  next-holds : (x : Command) (m : Machine) → ValidInputs map m → Holds m → data_not_written map n x (answer_to prims map x m)
+      → Holds (machine_after prims map x m)
   next-holds x m r h s = rw (step-constants prims map x m) (step-holds prims map F n D hard G x m r h s)
 
   -- sensed digests stay, but for a power-up

@@ -56,7 +56,8 @@ module _ (prims : Primitives) (map : Map) (F : fit map ≡ true) where
 
   -- a transition leaves it so, or went to SCRAP
   transition-working : (m : Machine) → Reached prims map F m → Working m → (target high low : ℕ)
-      → Working (machine_after prims map (Transition target high low) m) ⊎ ((target ≡ 20) × (code_of (answer_to prims map (Transition target high low) m) ≡ 0x00))
+      → Working (machine_after prims map (Transition target high low) m) ⊎ ((target ≡ 20) × (code_of (answer_to prims map (Transition target high low) m)
+      ≡ 0x00))
   transition-working m h w target high low = go (transition-life prims map F m h.held.right (recorded prims map F m h) target high low)
     where
       go : {code : ℕ} → LifeAfter prims map m target code (life_cycle_in map (machine_after prims map (Transition target high low) m).lent)

@@ -24,7 +24,8 @@ module _ (prims : Primitives) (map : Map) (m : Machine) where
   -- ---- what may be programmed
 
   pub record Programming (P : ℕ → List ℕ → Type 0) (x : Command) : Type 0 where
-    pub write : (a value : ℕ) → x ≡ Write a value → Writes prims map m a → P (first_word (partition_at map a) a) (stored_words prims map (k prims map m) a value)
+    pub write : (a value : ℕ) → x ≡ Write a value → Writes prims map m a
+        → P (first_word (partition_at map a) a) (stored_words prims map (k prims map m) a value)
     pub digest : (a : ℕ) → x ≡ Digest a → Digesting prims map m a → P ((partition_at map a).digest / 2) (words_of 4 (computed prims map m a))
     pub counter : (target high low : ℕ) → x ≡ Transition target high low → Transits prims map m target
         → P (counter_at map) (counter_words (k prims map m) (suc m.session.count))

@@ -28,7 +28,8 @@ module _ (prims : Primitives) (map : Map) (F : fit map ≡ true) where
   -- ---- one command
 
   -- a command that is neither power-up nor transition leaves the life cycle words, and so does a power-up
-  access-progress : (x : Command) (m : Machine) → class_of x ≡ access → Progress (life_cycle_in map m.lent) (life_cycle_in map (machine_after prims map x m).lent)
+  access-progress : (x : Command) (m : Machine) → class_of x ≡ access
+      → Progress (life_cycle_in map m.lent) (life_cycle_in map (machine_after prims map x m).lent)
   unfolding unchanged
   access-progress x m e =
       step-all prims map (λ (s : Step). Progress (life_cycle_in map m.lent) (life_cycle_in map s.result.machine.lent)) x m (λ answer j. stays)

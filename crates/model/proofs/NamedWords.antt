@@ -26,7 +26,8 @@ use Rattle.model.specs.Answers.{code_of, value_of}
 use Rattle.model.specs.Session.{is_ready, sensed_locked}
 use Rattle.model.specs.Lent.{Machine, Primitives}
 use Rattle.model.specs.Acts.{Act, refuse, perform}
-use Rattle.model.specs.Commands.{life_cycle_rule, counter_at, state_at, write_act, digest_act, move_act, command_act, ready_act, direct_rule, digest_rule, class_of}
+use Rattle.model.specs.Commands.{life_cycle_rule, counter_at, state_at, write_act, digest_act, move_act, command_act, ready_act, direct_rule}
+use Rattle.model.specs.Commands.{digest_rule, class_of}
 use Rattle.model.specs.Commands.{access}
 use Rattle.model.specs.PowerUp.{power_up_end}
 use Rattle.model.specs.Step.{Step, unchanged, performed, act, power_up, obey, after, answer_to}

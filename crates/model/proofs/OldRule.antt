@@ -164,7 +164,8 @@ module _ (prims : Primitives) (C : Cipher prims) (map : Map) (F : fit map ≡ tr
         inside-cells = omega (arith, granule-within map F i.below, place i, count i, (lengths-of prims map m.lent right).0)
 
     write-gains : (b value : ℕ)
-        → Gains a (two_words cells a) (Write b value) (answer_to prims map (Write b value) m) (two_words (machine_after prims map (Write b value) m).lent.cells a)
+        → Gains a (two_words cells a) (Write b value) (answer_to prims map (Write b value) m)
+        (two_words (machine_after prims map (Write b value) m).lent.cells a)
     write-gains b value =
         by_cases (eqb (first_word (partition_at map b) b) (first_word (partition_at map a) a))
         (λ t. step-judged prims map After (Write b value) m (λ e. unfold unchanged in stays) (λ e v. unfold unchanged in stays)

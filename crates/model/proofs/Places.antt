@@ -34,7 +34,8 @@ module _ (map : Map) (F : fit map ≡ true) where
   unfolding in_digest
   plain-count a l d p = (size-words (partition_at map a) a 4 (granule-plain (inside map F l).fits (plain-not-scrambled p) a (lt-leb _ _ d))).1
 
-  life-cycle-count : (a : ℕ) → a < limit map → (partition_at map a).kind ≡ kind.LifeCycle → a < (partition_at map a).digest → word_count (partition_at map a) a ≡ 2
+  life-cycle-count : (a : ℕ) → a < limit map → (partition_at map a).kind ≡ kind.LifeCycle → a < (partition_at map a).digest
+      → word_count (partition_at map a) a ≡ 2
   unfolding in_digest rights_of
   life-cycle-count a l e d =
       let plain : (rights_of (partition_at map a).kind).scrambled ≡ false = rw e refl in

@@ -23,7 +23,8 @@ use Rattle.model.specs.Answers.{code_of}
 use Rattle.model.specs.Session.{is_ready, read_locked, sensed_at, sensed_locked, with_locks}
 use Rattle.model.specs.Lent.{Lent, Machine, Primitives, with_cells}
 use Rattle.model.specs.Acts.{Effect, no_effect, lock, to_inert, to_dead, effect_on, Act, Performed, perform}
-use Rattle.model.specs.Commands.{write_act, read_act, front_read_act, digest_act, read_lock_act, move_act, transition_act, command_act, ready_act, authorized_act}
+use Rattle.model.specs.Commands.{write_act, read_act, front_read_act, digest_act, read_lock_act, move_act, transition_act, command_act, ready_act}
+use Rattle.model.specs.Commands.{authorized_act}
 use Rattle.model.specs.Commands.{read_denied, authorization, token_authorization, locked_token}
 use Rattle.model.specs.PowerUp.{PowerUpEnd, fails, succeeds, power_up_end, powered_session}
 use Rattle.model.specs.Step.{Step, unchanged, performed, act, power_up, obey, step, after, machine_after, answer_to}
@@ -93,7 +94,8 @@ module _ (prims : Primitives) (map : Map) (n : ℕ) where
   -- only a read asks the locks
   by-locks : {X : Type 0} (x : Command) (m : Machine) (ys : List Bool) → ((a : ℕ) → x ≡ Read a → X)
       → (ready_act prims map (with-locks ys m) x ≡ ready_act prims map m x → X) → X
-  unfolding ready_act command_act write_act front_read_act digest_act read_lock_act transition_act authorized_act authorization token_authorization locked_token move_act
+  unfolding ready_act command_act write_act front_read_act digest_act read_lock_act transition_act authorized_act authorization token_authorization
+      locked_token move_act
       sensed_locked sensed_at
   by-locks (Read a) m ys f g = f a refl
   by-locks (Write a value) m ys f g = g refl

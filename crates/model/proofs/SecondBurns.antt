@@ -128,7 +128,8 @@ module _ (prims : Primitives) (map : Map) (F : fit map ≡ true) where
         let e = step-held x m h in
         after-held l (machine_after prims map x m) (still m.lent.cells _ e h) ∙ e
 
-  pub granule-final : (m : Machine) (a : ℕ) → a < limit map → (rights_of (partition_at map a).kind).direct ≡ true → direct_rule (partition_at map a) a ≡ BlankOnly
+  pub granule-final : (m : Machine) (a : ℕ) → a < limit map → (rights_of (partition_at map a).kind).direct ≡ true → direct_rule (partition_at map a) a
+      ≡ BlankOnly
       → (l₁ l₂ : List Command)
       → let p = partition_at map a in
       (granule p (after prims map l₁ m).lent.cells a ≡ 0 → ⊥)

@@ -103,7 +103,8 @@ module _ (prims : Primitives) (map : Map) (F : fit map ≡ true) (m : Machine) w
   write-target a value w = record { address = a; below = w.below; by-rule = refl; first = refl; count = length-words _ _ }
 
   -- a digest location is the granule of its first address
-  pub digest-target : (a : ℕ) → Digesting prims map m a → Target map digest_rule ((partition_at map a).digest / 2) (length (words_of 4 (computed prims map m a)))
+  pub digest-target : (a : ℕ) → Digesting prims map m a
+      → Target map digest_rule ((partition_at map a).digest / 2) (length (words_of 4 (computed prims map m a)))
   unfolding partition_at
   digest-target a w =
       let p = partition_at map a in

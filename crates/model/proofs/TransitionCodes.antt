@@ -131,7 +131,8 @@ module _ (prims : Primitives) (map : Map) (m : Machine) (target given : ℕ) whe
     same : code ≡ 0x00 → Asked prims map m target given true
 
   -- a code that is none of these
-  no-causes : {answer answer' : Answer} → answer ≡ answer' → stroke_only (code_of answer') ≡ false → eqb (code_of answer') 0x00 ≡ false → Causes (code_of answer)
+  no-causes : {answer answer' : Answer} → answer ≡ answer' → stroke_only (code_of answer') ≡ false → eqb (code_of answer') 0x00 ≡ false
+      → Causes (code_of answer)
   unfolding stroke_only
   no-causes e f g = rw e (record {
     no-entry = λ q. absurd (true-not-false (rw q) f);

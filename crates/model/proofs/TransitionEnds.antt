@@ -132,7 +132,8 @@ module _ (prims : Primitives) (map : Map) (m : Machine) (target given : ℕ) whe
   spends : InRange → Ends (perform spending m.lent)
   unfolding perform
   spends space =
-      after_both Ends (program_answer life_cycle_rule cells₀ (counter_at map) stroke) _ _ (λ e. asks _ refl (space, e)) (λ cell e. counter_stops space e refl refl)
+      after_both Ends (program_answer life_cycle_rule cells₀ (counter_at map) stroke) _ _ (λ e. asks _ refl (space, e))
+      (λ cell e. counter_stops space e refl refl)
 
   -- once the record is judged
   pub ends : Ends (perform

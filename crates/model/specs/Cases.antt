@@ -6,7 +6,8 @@ use Rattle.model.specs.declared.Command.{Command}
 use Rattle.model.specs.declared.Command.TheVariants.{Read, Write, FrontRead, Digest, ReadLock, Transition, PowerUp}
 use Rattle.constants.specs.Constants.{digest_start, digest_final}
 use Rattle.model.specs.Lent.{Machine, Primitives}
-use Rattle.model.specs.CaseTables.{Case, as_is, lowest_bit_changed, blank_array, on_blank, off, both_sides, second_burn, which_word, constants, off_chip, HoldOn}
+use Rattle.model.specs.CaseTables.{Case, as_is, lowest_bit_changed, blank_array, on_blank, off, both_sides, second_burn, which_word, constants}
+use Rattle.model.specs.CaseTables.{off_chip, HoldOn}
 
 -- 448 words
 abbrev pub blank : List ℕ

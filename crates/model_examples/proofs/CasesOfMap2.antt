@@ -9,7 +9,8 @@ use Rattle.model.specs.declared.Command.TheVariants.{Read, Write, FrontRead, Dig
 use Rattle.model.specs.Lent.{Primitives}
 use Rattle.model.specs.Step.{obey}
 use Rattle.model.specs.CaseTables.{Case, as_is, lowest_bit_changed, off, both_sides, second_burn, which_word}
-use Rattle.model.specs.CasesOfMap2.{paper_on_map2, auth_state_rows, read_lock_rows, front_read_rows, edge_rows, hw_cfg1_digest, table_of_map2, HoldOnMap2, blank_hw_cfg1_digest}
+use Rattle.model.specs.CasesOfMap2.{paper_on_map2, auth_state_rows, read_lock_rows, front_read_rows, edge_rows, hw_cfg1_digest, table_of_map2}
+use Rattle.model.specs.CasesOfMap2.{HoldOnMap2, blank_hw_cfg1_digest}
 use Rattle.model_examples.proofs.CaseTables.{◌&◌, same, right-same, wrong-differs, Part, both, held, powered, unlocking, unlocked}
 use Rattle.model.proofs.Everything.{everything}
 

@@ -26,7 +26,8 @@ use Rattle.model.specs.PowerUp.{life_cycle_in}
 use Rattle.model.specs.Step.{after, answers, machine_after, answer_to}
 use Rattle.model.specs.CaseTables.{number}
 use Rattle.model.specs.Cases.{blank, table, Hold, blank_digest}
-use Rattle.model.specs.Claims.Terms.{ValidInputs, Cipher, DigestFits, Digested, stored_words, Lasts, NotWritten, used_value, Allowed, Matched, HiddenWord, Alike}
+use Rattle.model.specs.Claims.Terms.{ValidInputs, Cipher, DigestFits, Digested, stored_words, Lasts, NotWritten, used_value, Allowed, Matched}
+use Rattle.model.specs.Claims.Terms.{HiddenWord, Alike}
 use Rattle.model.specs.Claims.Terms.{Says}
 use Rattle.model.specs.Claims.Demand3.{Ready}
 use Rattle.model.specs.Session.{read_locked}

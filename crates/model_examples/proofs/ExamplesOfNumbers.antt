@@ -31,7 +31,13 @@ use Rattle.partitions.specs.declared.Kind.TheVariants as kind
 use Rattle.life_cycle.specs.declared.Token.TheVariants as token
 
 ready-inputs : ValidInputs map1 (ready 0 blank)
-ready-inputs = record { lengths = (right blank refl).lengths; valid = (right blank refl).valid; words = (right blank refl).words; fuses = (right blank refl).fuses }
+ready-inputs = record {
+  lengths = (right blank refl).lengths;
+  valid = (right blank refl).valid;
+  words = (right blank refl).words;
+  fuses =
+      (right blank refl).fuses;
+}
 
 -- ---- the order of refusals: the blank chip, switched off, has right lengths and valid constants, and answers 7
 

@@ -30,7 +30,8 @@ pub record WrongLengths : Type 0 where
   pub images : (image constants : List ℕ) → (length image ≡ 896 → ⊥) → (length image ≡ 1480 → ⊥) → Wrong image constants
   pub constants : (image constants : List ℕ) → (length constants ≡ 264 → ⊥) → Wrong image constants
   -- "a wrong length gives 0x10 on each line": on that of every record; the reader's own line, which no file changes, may follow
-  pub lines : (script image constants : List ℕ) → Wrong image constants → lines_of script image constants ≡ wrong_lines (commands_of script) ++ refusal_of script
+  pub lines : (script image constants : List ℕ) → Wrong image constants → lines_of script image constants
+      ≡ wrong_lines (commands_of script) ++ refusal_of script
   -- what is printed then depends on the script alone: so a file that is longer than what the program reads of it prints what its read start prints
   pub alike : (script image constants image' constants' : List ℕ) → Wrong image constants → Wrong image' constants'
       → transcript script image constants ≡ transcript script image' constants'

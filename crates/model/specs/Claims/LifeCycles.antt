@@ -74,7 +74,8 @@ module _ (prims : Primitives) (map : Map) where
     -- "RAW (0) all zero." "Other words A." A is in constants 84 to 103, B in 104 to 123
     pub raw : (constants : List ℕ) → state_words constants 0 ≡ replicate 20 0
     pub states : (constants : List ℕ) (state i : ℕ) → 0 < state → state ≤ 20 → i < 20
-        → get_or (state_words constants state) i 0 ≡ (when eqb (bit (get_or marks state 0) i) 1 then get_or constants (104 + i) 0 else get_or constants (84 + i) 0)
+        → get_or (state_words constants state) i 0
+        ≡ (when eqb (bit (get_or marks state 0) i) 1 then get_or constants (104 + i) 0 else get_or constants (84 + i) 0)
     -- "Count 0: all 24 counter words zero. Count n: words below n are D, the rest C." C is in constants 36 to 59, D in 60 to 83
     pub unused : (constants : List ℕ) → counter_words constants 0 ≡ replicate 24 0
     pub counts : (constants : List ℕ) (count i : ℕ) → 0 < count → i < 24

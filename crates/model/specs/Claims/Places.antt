@@ -18,7 +18,8 @@ pub record Places (map : Map) : Type 0 where
   pub digests : (a : ℕ) → a < limit map → (partition_at map a).digest ≤ a → word_count (partition_at map a) a ≡ 4
   pub secrets : (a first : ℕ) → a < limit map → KeyAt (partition_at map a).kind first → word_count (partition_at map a) a ≡ 4
   pub plains : (a : ℕ) → a < limit map → a < (partition_at map a).digest → Plain (partition_at map a).kind → word_count (partition_at map a) a ≡ 2
-  pub life_cycle : (a : ℕ) → a < limit map → (partition_at map a).kind ≡ kind.LifeCycle → a < (partition_at map a).digest → word_count (partition_at map a) a ≡ 2
+  pub life_cycle : (a : ℕ) → a < limit map → (partition_at map a).kind ≡ kind.LifeCycle → a < (partition_at map a).digest
+      → word_count (partition_at map a) a ≡ 2
   -- "low address bits inside a granule are ignored": the address is in its granule, which begins at a multiple of its size
   pub granules : (a : ℕ) → a < limit map
       → let first = first_word (partition_at map a) a in

@@ -124,7 +124,8 @@ module _ (prims : Primitives) (map : Map) where
   pub record Allowed (constants c₀ c : List ℕ) (a value : ℕ) : Type 0 where
     pub below : a < limit map
     pub not_denied : write_denied (locking (stored_digest (partition_at map a) c₀)) (partition_at map a) a ≡ false
-    pub takes : program_answer (direct_rule (partition_at map a) a) c (first_word (partition_at map a) a) (stored_words prims map constants a value) ≡ programmed.Done
+    pub takes : program_answer (direct_rule (partition_at map a) a) c (first_word (partition_at map a) a) (stored_words prims map constants a value)
+        ≡ programmed.Done
 
   -- "It takes effect: it answers 0, its granule holds the data, scrambled where secret, and no other cell changes."
   pub record TakesEffect (m : Machine) (a value : ℕ) (s : Step) : Type 0 where

@@ -26,7 +26,8 @@ module _ (prims : Primitives) (map : Map) where
   pub record HashStored (constants cells : List ℕ) (k : Kind) (first offset low high : ℕ) : Type 0 where
     pub digest : digest_in map (number_of_kind map k) cells ≡ 0 → ⊥
     pub low_half : part_at cells ((partition map (number_of_kind map k)).start / 2 + offset) 4 ≡ words_of 4 (prims.encrypt (eight_from constants first) low)
-    pub high_half : part_at cells ((partition map (number_of_kind map k)).start / 2 + offset + 4) 4 ≡ words_of 4 (prims.encrypt (eight_from constants first) high)
+    pub high_half : part_at cells ((partition map (number_of_kind map k)).start / 2 + offset + 4) 4
+        ≡ words_of 4 (prims.encrypt (eight_from constants first) high)
 
   pub record Tokens : Type 0 where
     -- on every fit map the sixteen bytes of a stored token are data of a partition of that kind

@@ -80,7 +80,8 @@ module _ (prims : Primitives) (map : Map) where
 
   -- a programmed bit of the counter words would be cleared; or, where the table's token was given, one of the state words
   pub data Stops (m : Machine) (target given : ℕ) : Type 0 where
-    counter_refused : {cell : ℕ} → program_answer life_cycle_rule m.lent.cells (counter_at map) (stroke_words m) ≡ programmed.Refused cell → Stops m target given
+    counter_refused : {cell : ℕ} → program_answer life_cycle_rule m.lent.cells (counter_at map) (stroke_words m) ≡ programmed.Refused cell
+        → Stops m target given
     state_refused : {cell : ℕ} → program_answer life_cycle_rule m.lent.cells (counter_at map) (stroke_words m) ≡ programmed.Done → Asked m target given true
         → program_answer life_cycle_rule m.lent.cells (state_at map) (state_words m.lent.constants target) ≡ programmed.Refused cell → Stops m target given
 
@@ -196,5 +197,7 @@ pub record TokenPlaces : Type 0 where
       → (stored_token map2 TestUnlock copy ≡ number_of (part_at copy (0x498 / 2) 8))
       × (stored_token map2 TestExit copy ≡ number_of (part_at copy (0x4A8 / 2) 8))
       × (stored_token map2 Rma copy ≡ number_of (part_at copy (0x518 / 2) 8))
-  pub map1_locks : (number_of_kind map1 (token_kind TestUnlock) ≡ 3) × (number_of_kind map1 (token_kind TestExit) ≡ 3) × (number_of_kind map1 (token_kind Rma) ≡ 5)
-  pub map2_locks : (number_of_kind map2 (token_kind TestUnlock) ≡ 7) × (number_of_kind map2 (token_kind TestExit) ≡ 7) × (number_of_kind map2 (token_kind Rma) ≡ 9)
+  pub map1_locks : (number_of_kind map1 (token_kind TestUnlock) ≡ 3) × (number_of_kind map1 (token_kind TestExit)
+      ≡ 3) × (number_of_kind map1 (token_kind Rma) ≡ 5)
+  pub map2_locks : (number_of_kind map2 (token_kind TestUnlock) ≡ 7) × (number_of_kind map2 (token_kind TestExit)
+      ≡ 7) × (number_of_kind map2 (token_kind Rma) ≡ 9)

@@ -12,7 +12,7 @@ use Rattle.chip.proofs.Judging.{accepted-none, refused-some}
 use Rattle.chip.proofs.Acting.{refused}
 use Rattle.transition.proofs.Moving.{bad-record, Known, unknown-target, strokes-used, Spendable, stroke-refused, not-permitted, moved}
 use Rattle.transition.proofs.transition.Goals as goal
-use Rattle.transition.proofs.transition.Goals.{After-permitted, After-spend, Else-not-session, In_default}
+use Rattle.transition.proofs.transition.Goals.{After-permitted, After-spend}
 
 -- the stroke can be spent
 ready : (q : After-spend) → Spendable (map_of q.args.map) (machine_of (lent_of q.args.cells.now q.args.copy.now q.args.constants.now) q.args.session)
