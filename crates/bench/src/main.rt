@@ -8,8 +8,7 @@ ghost use Rattle.script.specs.Lines.{end_line};
 
 use model::Session;
 use partitions::MapName;
-use std::alloc::{AllocError, Global};
-use std::io::{Read, Write};
+use std::io::{Cursor, Eprint, Read, Write};
 use std::rt::Files;
 use std::{fs, io};
 use transcript::Continuation;
@@ -261,15 +260,36 @@ fn rehearse_on<W: Write>(
 }
 
 // The system's text for an error, without the number that is printed behind it.
-fn reason(alloc: Global, error: io::Error) -> Result<String, AllocError> {
-    let mut text = format!(in alloc; "{error}")?;
-    if let Some(code) = error.raw_os_error() {
-        let number = format!(in alloc; " (os error {code})")?;
-        if let Some(words) = text.as_str().strip_suffix(number.as_str()) {
-            text = String::from_str(alloc, words)?;
+fn without_number(text: &str, code: Option<i32>) -> &str {
+    if let Some(code) = code {
+        let mut number = Cursor::new([0u8; 32]);
+        if write!(number, " (os error {code})").is_ok() {
+            let n = number.position() as usize;
+            let bytes = number.into_inner();
+            if n <= 32 {
+                if let Ok(end) = str::from_utf8(&bytes[..n]) {
+                    return text.strip_suffix(end).unwrap_or(text);
+                }
+            }
         }
     }
-    Ok(text)
+    text
+}
+
+// Says on standard error why standard output does not take a line.
+fn say_why(rt: &impl Eprint, error: io::Error) -> io::Result<()> {
+    let mut text = Cursor::new([0u8; 320]);
+    if write!(text, "{error}").is_ok() {
+        let n = text.position() as usize;
+        let bytes = text.into_inner();
+        if n <= 320 {
+            if let Ok(all) = str::from_utf8(&bytes[..n]) {
+                let why = without_number(all, error.raw_os_error());
+                return eprintln!(rt; "bench: standard output: {why}");
+            }
+        }
+    }
+    eprintln!(rt; "bench: standard output: {error}")
 }
 
 // Rehearses standard input over `image.bin` and `constants.bin`; the image's size decides the map. Standard output that does not take a line is named on
@@ -291,9 +311,8 @@ fn main(rt: HostRuntime) -> io::Result<()> {
         &constants[..constant_count],
         map,
     );
-    if let Err(error) = written {
-        let why = reason(rt.alloc(), error)?;
-        eprintln!(rt; "bench: standard output: {why}")?;
+    match written {
+        Ok(()) => Ok(()),
+        Err(error) => say_why(&rt, error),
     }
-    Ok(())
 }
