@@ -21,7 +21,7 @@ NOT_PROVED = "logic=not-proved"
 # First lines of errors that are about no fact: a name that is not in scope, a place of a proof file that is not there or is another, a proof that was
 # not tried.
 UNFIT = re.compile(
-    r"is not in scope|is already a name|no `mod` line|has no `|has no field|one has `\S+\.After-|explicit argument patterns|was not admitted"
+    r"is not in scope|is already a name|no `mod` line|has no `|has no field|one has `\S+\.After-|explicit argument patterns|`, which was (?:not admitted|rejected)"
 )
 
 # A text of edits: what its comments say, its lines with a head of their own, and its edits, each a file, an old text and a new one.
@@ -218,13 +218,39 @@ def errors_in(said):
     return re.findall(r"(?m)^(\S+?)(?::\d+)*: error: (.*(?:\n  .*)*)", said)
 
 
-def unfit(path, text):
-    """Whether an error is surely about no fact: one of the kinds of UNFIT, or one in a definition, before any proof."""
-    return path.startswith("specs/") or UNFIT.search(text) is not None
+def inside(path):
+    """A path as it is inside a crate."""
+    return path[2:] if path.startswith("./") else path
+
+
+def first_refusal(said):
+    """Path and text of the first error, or of the first note on a place where there is none: a function whose proof the checker itself did not find."""
+    path, text = (errors_in(said) or re.findall(r"(?m)^note: (\S+?):\d+:\d+: (.*)", said) or [("", "")])[0]
+    return inside(path), text.split("\n")[0]
+
+
+def fault_at(found, text, place):
+    """What is wrong where an edit is refused in a file, with the first line of what is said of it.
+
+    It can't tell that an error is about a fact; it tells those that surely are not: the kinds of UNFIT, and an error in a definition before any proof."""
+    if found.startswith("specs/") or UNFIT.search(text):
+        return "refused at %s, and not because of a fact: %s" % (found, text)
+    return "" if found == place else "refused at %s, and it names %s: %s" % (found or "no place", place, text)
+
+
+def fault_of(said, place):
+    """What is wrong where the checker does not refuse an edit in the file that it has to be refused at, because of a fact."""
+    verdict = verdict_of(said)
+    if verdict == "proved":
+        return "not refused: the crate is still proved"
+    if verdict != "not-proved":
+        told = said.strip().split("\n")
+        return "it does not reach the prover: " + ([line for line in told if ": error" in line] or told[-1:])[0]
+    return fault_at(*first_refusal(said), place)
 
 
 # ---- what `rt ci` and `rt must-fail` print of an edit
-REFUSED = re.compile(r"refused, as it must be(?: \((?P<only>only [^)]*)\))?(?:: (?:note: )?(?:\./)?(?P<path>[^:]+):\d+:\d+:(?: error:)? ?(?P<text>.*))?")
+REFUSED = re.compile(r"refused, as it must be(?: \((?P<only>only [^)]*)\))?(?:: (?:note: )?(?P<path>[^:]+):\d+:\d+:(?: error:)? ?(?P<text>.*))?")
 
 
 def told_of_edits(said):
@@ -232,16 +258,11 @@ def told_of_edits(said):
     return {(m[1], m[2]): m[3] for m in re.finditer(r"(?m)^rt: must-fail (\w+)/([\w.-]+)\.edit: (.*)$", said)}
 
 
-def fault_of(told, place):
-    """What is wrong where the checker does not refuse an edit in the file that it has to be refused at, because of a fact.
-
-    It can't tell that an error is about a fact; it tells those that surely are not: the kinds of UNFIT, and an error in a definition before any proof."""
-    if told is None:
-        return "nothing is said of it"
-    refused = REFUSED.match(told)
+def fault_of_line(told, place):
+    """The same by what rt says of an edit: its verdict, and the start of the first line that is not about a name that the edit took away."""
+    refused = REFUSED.match(told or "")
     if not refused:
-        return told
-    found, text = refused["path"] or "no place", refused["text"] or ""
-    if refused["only"] or unfit(found, text):
-        return "refused at %s, and not because of a fact: %s" % (found, text or refused["only"])
-    return "" if found == place else "refused at %s, and it names %s: %s" % (found, place, text)
+        return told or "nothing is said of it"
+    if refused["only"]:
+        return "refused, and not because of a fact: " + refused["only"]
+    return fault_at(inside(refused["path"] or ""), refused["text"] or "", place)
