@@ -21,7 +21,8 @@ NOT_PROVED = "logic=not-proved"
 # First lines of errors that are about no fact: a name that is not in scope, a place of a proof file that is not there or is another, a proof that was
 # not tried.
 UNFIT = re.compile(
-    r"is not in scope|is already a name|no `mod` line|has no `|has no field|one has `\S+\.After-|explicit argument patterns|`, which was (?:not admitted|rejected)"
+    r"is not in scope|is already a name|no `mod` line|has no `|has no field|one has `\S+\.After-|explicit argument patterns"
+    r"|`, which was (?:not admitted|rejected)"
 )
 
 # A text of edits: what its comments say, its lines with a head of their own, and its edits, each a file, an old text and a new one.
