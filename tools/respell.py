@@ -1,7 +1,7 @@
 #!/usr/bin/env python3
 """Brings the names of this repository's own definitions and lemmas to the spelling of today's Rattle.
 
-usage: tools/respell.py        at the top of the repository, once, right after /opt/rattle/port/port.py and before anything is committed
+usage: tools/respell.py        at the top of the repository, once, right after the kit's port.py and before anything is committed
 
 A definition, a field or a lemma is written in snake case: `stateAfter` becomes `state_after`, `sBox-lt` becomes `s_box-lt`. A dash that joins two names stays.
 The operator of choice has the brackets of the library's own, `if b then x else y`, which `rt ci` refuses for another definition: it becomes
