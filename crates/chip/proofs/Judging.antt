@@ -7,6 +7,7 @@ use mathlib.Core.Option.{Option, none, some}
 use Prim.Native.Nat.{ℕ, ◌/◌}
 use native.Mathlib.Omega.{arith}
 use lib.Dec.{eqb}
+use Rattle.std.specs.Prelude.{Ok, Err}
 use lib.ListN.{length}
 use borrow.Author.Tests.{eqb-true, eq-eqb, ne_eqb}
 use Rattle.basics.proofs.Choice.{by-option, by_cases, and-three, and-false, if-true, if-false}
@@ -21,22 +22,21 @@ use Rattle.model.specs.Session.{is_ready}
 use Rattle.model.specs.Lent.{right_sizes}
 use Rattle.model.specs.Step.{judgement}
 use Rattle.model.proofs.Steps.{judgement-right}
-use Rattle.chip.specs.declared.Judged.TheVariants.{Accepted, Refused}
 use Rattle.chip.specs.Judging.{judged_as, admission}
 
 -- accepted, or refused with an answer: what the refusal then is
-pub accepted-none : (o : Option Answer) → judged_as o ≡ Accepted → o ≡ none
+pub accepted-none : (o : Option Answer) → judged_as o ≡ Ok tt → o ≡ none
 accepted-none none e = refl
-accepted-none (some answer) e = absurd (let z : ◌≡◌ {A = ℕ} 0 1 = cc in omega arith)
+accepted-none (some answer) e = cc
 
-pub refused-some : (o : Option Answer) (answer : Answer) → judged_as o ≡ Refused answer → o ≡ some answer
-refused-some none answer e = absurd (let z : ◌≡◌ {A = ℕ} 0 1 = cc in omega arith)
+pub refused-some : (o : Option Answer) (answer : Answer) → judged_as o ≡ Err answer → o ≡ some answer
+refused-some none answer e = cc
 refused-some (some a) answer e = ap some (let q : a ≡ answer = cc in q)
 
 module _ (map : Map) (sizes : Sizes) (k : List ℕ) where
   -- ---- each reason
 
-  pub wrong-length : right_sizes map sizes (length k) ≡ false → Refused WrongLength ≡ judged_as (judgement map sizes k)
+  pub wrong-length : right_sizes map sizes (length k) ≡ false → Err WrongLength ≡ judged_as (judgement map sizes k)
   unfolding judgement
   wrong-length e = ap judged_as (sym (if-true _ _ (ap not e)))
 
@@ -56,11 +56,11 @@ module _ (map : Map) (sizes : Sizes) (k : List ℕ) where
   unfolding right_sizes
   sizes-right a b c = rw (eq-eqb sizes.cells (limit map / 2) a, eq-eqb sizes.copy (limit map / 2) b, eq-eqb (length k) constant_count c)
 
-  pub invalid-constants : right_sizes map sizes (length k) ≡ true → valid_constants k ≡ false → Refused InvalidConstants ≡ judged_as (judgement map sizes k)
+  pub invalid-constants : right_sizes map sizes (length k) ≡ true → valid_constants k ≡ false → Err InvalidConstants ≡ judged_as (judgement map sizes k)
   unfolding judgement
   invalid-constants e v = ap judged_as (sym (if-false _ _ (ap not e) ∙ if-true _ _ (ap not v)))
 
-  pub accepted : right_sizes map sizes (length k) ≡ true → valid_constants k ≡ true → Accepted ≡ judged_as (judgement map sizes k)
+  pub accepted : right_sizes map sizes (length k) ≡ true → valid_constants k ≡ true → Ok tt ≡ judged_as (judgement map sizes k)
   unfolding judgement
   accepted e v = ap judged_as (sym (if-false _ _ (ap not e) ∙ if-false _ _ (ap not v)))
 
@@ -96,3 +96,7 @@ module _ (map : Map) (sizes : Sizes) (k : List ℕ) where
         by-option (judgement map sizes k)
         (λ e. by_cases (is_ready phase) (λ r. (e, r)) (λ r. absurd (some-not-none (sym (phase-not-ready e r) ∙ h))))
         (λ a e. absurd (some-not-none (sym (not-accepted a e) ∙ h)))
+
+pub ruleset judgements = (wrong-length, cells-wrong, copy-wrong, constants-wrong, sizes-right, invalid-constants, accepted)
+
+pub ruleset admissions = (accepted-none, refused-some, not-accepted, phase-not-ready, phase-ready)

@@ -7,6 +7,9 @@ use Rattle.partitions.specs.declared.Kind.TheVariants.{LifeCycle}
 use Rattle.partitions.specs.Map.{Map, limit, number_of_kind}
 use Rattle.partitions.specs.Fitness.{fit}
 use Rattle.partitions.proofs.Map.{is-fit, partition-fit, life-cycle-last, life-cycle-partition}
+use Rattle.partitions.specs.declared.MapName.{MapName}
+use Rattle.partitions.specs.Maps.{map_of}
+use Rattle.partitions.proofs.Maps.{maps-fit}
 use Rattle.model.specs.Commands.{counter_at, state_at}
 
 module _ (map : Map) (fits : fit map ≡ true) where
@@ -30,3 +33,7 @@ module _ (map : Map) (fits : fit map ≡ true) where
 
   pub words-short : limit map / 2 ≤ 1024
   words-short = omega (arith, (is-fit map fits).short)
+
+-- the 24 counter words end within the array, which is short
+pub state_near : (name : MapName) → counter_at (map_of name) + 24 ≤ 1024
+state_near name = omega (arith, counter-words-end _ (maps-fit name), words-short _ (maps-fit name))

@@ -56,3 +56,7 @@ pub digest-within : (cells k : List ℕ) (p : Partition) → p.start / 2 ≤ p.d
     → digest_within cells k p ≡ computed_digest primitives k p cells
 unfolding digest_within
 digest-within cells k p l u = if-false _ _ (or-none _ _ (le-ltb _ _ l) (le-ltb _ _ u))
+
+pub ruleset blocks = (plain, plain_back, secret, secret-back)
+
+pub ruleset within_laws = (within-order, within-cells, digest-within, data-digest)
