@@ -13,7 +13,10 @@ use Rattle.partitions.specs.Fitness.{fit}
 use Rattle.partitions.proofs.Map.{partition-fit, end-within}
 use Rattle.model.specs.Lent.{Primitives}
 use Rattle.model.specs.Commands.{stored_digest, computed_digest}
-use Rattle.model.specs.PowerUp.{digest_holds}
+use Rattle.basics.proofs.Choice.{if-true, if-false}
+use Rattle.chip.proofs.Reading.{digest-within}
+use mathlib.Core.Path.{sym}
+use Rattle.model.specs.PowerUp.{digest_holds, sensed_digest}
 
 -- a partition's data words lie in the array
 pub data-within : (map : Map) (fits : fit map ≡ true) {n : ℕ} → n < length map
@@ -35,3 +38,16 @@ module _ (prims : Primitives) (constants cells : List ℕ) where
       → eqb (stored_digest p cells) (computed_digest prims constants p cells) ≡ digest_holds prims constants cells p
   unfolding digest_holds
   compared p e z = rw (e, ne_eqb (stored_digest p cells) 0 z)
+
+-- a partition that direct access reaches has a digest
+pub digest_reached : (cells : List ℕ) (p : Partition) → (rights_of p.kind).direct ≡ true → stored_digest p cells ≡ sensed_digest cells p
+unfolding sensed_digest
+digest_reached cells p e = sym (if-true _ _ e)
+
+pub no_digest : (cells : List ℕ) (p : Partition) → (rights_of p.kind).direct ≡ false → 0 ≡ sensed_digest cells p
+unfolding sensed_digest
+no_digest cells p e = sym (if-false _ _ e)
+
+pub ruleset checks = (none-due, none-stored, compared, digest-within)
+
+pub ruleset stored = (digest_reached, no_digest)

@@ -3,10 +3,13 @@
 use mathlib.Core.Path.{◌≡◌, refl, sym, ap, ◌∙◌}
 use mathlib.Core.Bool.{true, false, not, ◌&&◌}
 use mathlib.Core.List.{List, [], ◌∷◌}
-use Prim.Native.Nat.{ℕ, suc, ◌+◌, ◌*◌, ◌-◌, ◌/◌, ◌%◌, ◌≤◌, ◌<◌}
+use Prim.Native.Nat.{ℕ, zero, suc, ◌+◌, ◌*◌, ◌-◌, ◌/◌, ◌%◌, ◌≤◌, ◌<◌}
 use native.Mathlib.Omega.{arith}
 use lib.Dec.{leb}
-use lib.ListN.{length, get_or, set}
+use borrow.Rule.Slice.PartMut.{put_mid}
+use Rattle.std.proofs.lemmas.List.{places}
+use Rattle.std.proofs.Common.{rules}
+use lib.ListN.{length, get_or, set, replicate}
 use borrow.Author.Tests.{leb-true, leb-false, le-leb, lt-leb}
 use Rattle.basics.specs.Range.{listed}
 use Rattle.basics.proofs.Choice.{by_cases, and-false, if-true, if-false}
@@ -108,12 +111,25 @@ module _ (prims : Primitives) (map : Map) (fits : fit map ≡ true) (constants c
 
 -- ---- a block is stored
 
+-- the blocks below a number are latched
+pub record Latched (f : ℕ → ℕ) (xs : List ℕ) (number : ℕ) : Type 0 where
+  pub entry : (j : ℕ) → j < 4 * number → get_or xs j 0 ≡ f j
+
 pub stored-block : (f : ℕ → ℕ) (xs ws : List ℕ) (at : ℕ) → at + 4 ≤ length xs → ws ≡ listed f at 4 → ((j : ℕ) → j < at → get_or xs j 0 ≡ f j)
-    → (j : ℕ) → j < at + 4
-    → get_or (set (set (set (set xs at (get_or ws 0 0)) (at + 1) (get_or ws 1 0)) (at + 2) (get_or ws 2 0)) (at + 3) (get_or ws 3 0)) j 0 ≡ f j
+    → (j : ℕ) → j < at + 4 → get_or (put_mid at 4 xs ws) j 0 ≡ f j
+stored-block f xs ws at h e known j l =
+    by_cases (leb at j)
+    (λ t. let q : at ≤ j = leb-true at j t in search (rules, places))
+    (λ t. let q : j < at = leb-false at j t in search (rules, places, known))
+
+-- ---- nothing is sensed
+
+zeros-from : (i n : ℕ) → replicate {A = ℕ} n 0 ≡ listed (λ j. 0) i n
 unfolding listed
-stored-block f xs ws at h e known =
-    let one : at + 1 ≡ suc at = omega arith in
-    let two : at + 2 ≡ suc (suc at) = omega arith in
-    let three : at + 3 ≡ suc (suc (suc at)) = omega arith in
-    rw (e, one, two, three) (sets_more f 4 xs at h known)
+zeros-from i zero = refl
+zeros-from i (suc n) = ap (λ (xs : List ℕ). 0 ∷ xs) (zeros-from (suc i) n)
+
+pub zeros-listed : (n : ℕ) → replicate {A = ℕ} n 0 ≡ listed (λ j. 0) 0 n
+zeros-listed n = zeros-from 0 n
+
+pub ruleset zeros = (zeros-listed)
