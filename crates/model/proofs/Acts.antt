@@ -1,4 +1,5 @@
 -- Whatever holds of every act, with no case on commands. The idea: an act is a small tree, so each law is an induction on it.
+use Rattle.std.specs.Prelude.{Ok, Err}
 use mathlib.Core.Path.{◌≡◌, refl, ap, ◌∙◌}
 use mathlib.Core.Bool.{Bool, false}
 use mathlib.Core.List.{List}
@@ -11,9 +12,8 @@ use Rattle.words.specs.declared.Rule.{Rule}
 use Rattle.words.specs.declared.Programmed.{Programmed}
 use Rattle.words.specs.Programming.{program_answer, program_cells, Kept}
 use Rattle.words.proofs.Programming.{kept_refl, kept_trans, program-kept, program-length, program-elsewhere}
-use Rattle.model.specs.declared.Answer.{Answer}
-use Rattle.model.specs.declared.Answer.TheVariants.{Done, NotBlank}
-use Rattle.model.specs.Answers.{code_of}
+use Rattle.model.specs.declared.Failure.TheVariants.{NotBlank}
+use Rattle.model.specs.Answers.{Answer, code_of}
 use Rattle.model.specs.Lent.{Lent, with_cells}
 use Rattle.model.specs.Acts.{Effect, Act, say, program, compare, Performed, after_program, with_comparison, perform}
 use Rattle.words.specs.declared.Programmed.TheVariants as programmed
@@ -81,7 +81,7 @@ perform-frame (compares {test = test} same other) l j h =
 
 pub data Gives (T : Answer → Effect → Type 0) : Act → Type 0 where
   says : {answer : Answer} {effect : Effect} → T answer effect → Gives T (say answer effect)
-  programs : {rule : Rule} {at : ℕ} {words : List ℕ} {effect : Effect} {next : Act} → ((cell : ℕ) → T (NotBlank cell) effect) → Gives T next
+  programs : {rule : Rule} {at : ℕ} {words : List ℕ} {effect : Effect} {next : Act} → ((cell : ℕ) → T (Err (NotBlank cell)) effect) → Gives T next
       → Gives T (program rule at words effect next)
   compares : {test : Lent → Bool} {same other : Act} → Gives T same → Gives T other → Gives T (compare test same other)
 
@@ -95,5 +95,5 @@ perform-gives {T} (Gives.compares {test = test} same other) l =
     if-both (λ (r : Performed). T r.answer r.effect) _ _ _ (λ e. perform-gives same l) (λ e. perform-gives other l)
 
 -- a refusal is not an answer of 0
-pub not_done : {answer : Answer} {value : ℕ} → eqb (code_of answer) 0x00 ≡ false → answer ≡ Done value → ⊥
+pub not_done : {answer : Answer} {value : ℕ} → eqb (code_of answer) 0x00 ≡ false → answer ≡ Ok value → ⊥
 not_done t e = eqb-false _ _ t (ap code_of e)

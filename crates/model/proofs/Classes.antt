@@ -2,9 +2,9 @@
 use mathlib.Core.Path.{◌≡◌, refl, sym, ◌∙◌}
 use Prim.Native.Nat.{ℕ}
 use native.Mathlib.Omega.{arith}
-use Rattle.model.specs.declared.Answer.{Answer}
 use Rattle.model.specs.declared.Command.{Command}
 use Rattle.model.specs.declared.Command.TheVariants.{Read, Write, FrontRead, Digest, ReadLock, Transition, PowerUp}
+use Rattle.model.specs.Answers.{Answer}
 use Rattle.model.specs.Commands.{class_of, sensing, transiting, access}
 use Rattle.model.specs.Claims.Terms.{not_power_up, quiet, stays_ready, Writing, writing_of, writes_at, digests_at, writes_nothing}
 use Rattle.model.specs.Claims.Classes.{Classes}

@@ -1,4 +1,5 @@
 -- The token comparisons of a transition. The idea: an act compares once at most, and the code of its answer fixes whether it did and with which result.
+use Rattle.std.specs.Prelude.{Err}
 use mathlib.Core.Path.{◌≡◌, refl, ap}
 use mathlib.Core.Bool.{Bool, true, false}
 use mathlib.Core.List.{List, [], ◌∷◌}
@@ -18,7 +19,7 @@ use Rattle.life_cycle.specs.declared.Entry.{Entry}
 use Rattle.life_cycle.specs.declared.Entry.TheVariants.{Allowed, Forbidden}
 use Rattle.life_cycle.specs.Words.{counter_words, state_words}
 use Rattle.life_cycle.specs.Transitions.{table_entry}
-use Rattle.model.specs.declared.Answer.TheVariants.{TokenDiffers}
+use Rattle.model.specs.declared.Failure.TheVariants.{TokenDiffers}
 use Rattle.model.specs.declared.Command.TheVariants.{Transition}
 use Rattle.model.specs.Answers.{code_of}
 use Rattle.constants.specs.Constants.{raw_unlock_hash}
@@ -118,7 +119,7 @@ module _ (prims : Primitives) (map : Map) (m : Machine) (target given : ℕ) (en
   compares n test = by_result (test l)
     where
       by_result : (result : Bool) → ResultByCode entry
-          (with_comparison result (when result then perform (move_act prims map m target) l else perform (say TokenDiffers to_inert) l))
+          (with_comparison result (when result then perform (move_act prims map m target) l else perform (say (Err TokenDiffers) to_inert) l))
       by_result true = unfold when◌then◌else◌ in (moves-same n)
       by_result false = unfold when◌then◌else◌ with_comparison perform in (record {
         differs = λ z. refl;
@@ -170,7 +171,7 @@ module _ (prims : Primitives) (map : Map) (m : Machine) (target high low : ℕ) 
   unfolding unchanged obey act performed
   step-compared =
       step_both prims map (λ (s : Step). ByCode entry (code_of s.result.answer) s.compared) (Transition target high low) m
-      (λ answer j. judged-without (code_of answer) j) act-by-code
+      (λ failure j. judged-without (code_of (Err failure)) j) act-by-code
     where
       judged-without : (code : ℕ) → judgement_code code ≡ true → ByCode (table_entry m.session.state target) code []
       judged-without code j = record {

@@ -14,10 +14,9 @@ use Rattle.model.specs.declared.Reason.TheVariants.{BitCleared, DigestFailed, Li
 use Rattle.model.specs.declared.Phase.{Phase}
 use Rattle.model.specs.declared.Phase.TheVariants.{Off, Ready, Inert, Dead}
 use Rattle.model.specs.declared.Session.{Session}
-use Rattle.model.specs.declared.Answer.{Answer}
 use Rattle.model.specs.declared.Command.{Command}
 use Rattle.model.specs.Session.{reason_code, is_ready}
-use Rattle.model.specs.Answers.{code_of}
+use Rattle.model.specs.Answers.{Answer, code_of}
 use Rattle.model.specs.Lent.{Lent, Machine, Primitives}
 use Rattle.model.specs.Acts.{Effect, no_effect, lock, to_inert, to_dead, effect_on}
 use Rattle.model.specs.Commands.{ready_act}

@@ -1,5 +1,6 @@
 -- When a digest command answers 5 and 4. The idea: an address that is the start of a partition is in that partition, so that the guards of the act are the
 -- conditions of the rule; past them the four words of the location decide.
+use Rattle.std.specs.Prelude.{Ok, Err}
 use mathlib.Core.Path.{◌≡◌, refl, sym, ap, ◌∙◌}
 use mathlib.Core.Bool.{true, not, false, ◌||◌}
 use mathlib.Core.List.{List}
@@ -17,8 +18,7 @@ use Rattle.words.proofs.Programming.{refused-not-done, refused-lowest, lowest-re
 use Rattle.partitions.specs.Fitness.{fit}
 use Rattle.partitions.specs.Map.{Map, rights_of, number_at, partition_at, limit}
 use Rattle.partitions.proofs.Map.{inside, only, partition-at, partition-fit, end-within}
-use Rattle.model.specs.declared.Answer.{Answer}
-use Rattle.model.specs.declared.Answer.TheVariants.{Done, NotBlank, Denied}
+use Rattle.model.specs.declared.Failure.TheVariants.{NotBlank, Denied}
 use Rattle.model.specs.declared.Command.TheVariants.{Digest}
 use Rattle.model.specs.Session.{is_ready, sensed_locked, sensed_at}
 use Rattle.model.specs.Lent.{Machine, Primitives}
@@ -35,6 +35,7 @@ use Rattle.model.proofs.StoredWords.{lowest-blank}
 use Rattle.model.proofs.Guards.{allowed-both, digest-guards, digest-open, allowed-there, allowed-below, not-locked}
 use Rattle.words.specs.declared.Programmed.TheVariants as programmed
 use Rattle.model.specs.declared.Phase.TheVariants as phase
+use Rattle.model.specs.Answers.{Answer}
 
 module _ (prims : Primitives) (map : Map) (F : fit map ≡ true) (m : Machine) (a : ℕ) where
   -- an allowed command's address is in its partition
@@ -86,9 +87,9 @@ module _ (prims : Primitives) (map : Map) (F : fit map ≡ true) (m : Machine) (
   Takes result = program_answer digest_rule m.lent.cells ((partition_at map a).digest / 2) words ≡ result
 
   data DigestEnd (answer : Answer) : Type 0 where
-    denied : (Allowed → ⊥) → answer ≡ Denied → DigestEnd answer
-    stops : {i : ℕ} → Allowed → Takes (programmed.Refused i) → answer ≡ NotBlank i → DigestEnd answer
-    done : {value : ℕ} → Allowed → Takes programmed.Done → answer ≡ Done value → DigestEnd answer
+    denied : (Allowed → ⊥) → answer ≡ Err Denied → DigestEnd answer
+    stops : {i : ℕ} → Allowed → Takes (programmed.Refused i) → answer ≡ Err (NotBlank i) → DigestEnd answer
+    done : {value : ℕ} → Allowed → Takes programmed.Done → answer ≡ Ok value → DigestEnd answer
 
   abbrev Ends : Act → Type 0
   Ends x = DigestEnd (perform x m.lent).answer

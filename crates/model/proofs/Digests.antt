@@ -21,9 +21,9 @@ use Rattle.partitions.specs.Fitness.{fit}
 use Rattle.partitions.proofs.KindRights.{soft-plain, hardware-direct}
 use Rattle.partitions.proofs.Map.{inside, partition-at, partition-fit, end-within}
 use Rattle.partitions.proofs.Granules.{word-inside, word_number, digest-word, digest-granule}
-use Rattle.model.specs.declared.Answer.{Answer}
 use Rattle.model.specs.declared.Command.{Command}
 use Rattle.model.specs.declared.Command.TheVariants.{Write, Digest}
+use Rattle.model.specs.Answers.{Answer}
 use Rattle.model.specs.Lent.{Machine, Primitives}
 use Rattle.model.specs.Commands.{stored_digest, scrambled}
 use Rattle.model.specs.Step.{Step, unchanged, performed, act, power_up, after, machine_after, answer_to}

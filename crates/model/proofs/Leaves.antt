@@ -1,5 +1,6 @@
 -- What holds of every act of a command. The idea: its form says what it may program and what it may answer, so that a law about either names no command
 -- but those that do.
+use Rattle.std.specs.Prelude.{Ok, Err}
 use mathlib.Core.Path.{◌≡◌, refl}
 use mathlib.Core.List.{List}
 use Prim.Native.Nat.{ℕ, suc, ◌/◌}
@@ -7,10 +8,11 @@ use Rattle.words.specs.Words.{words_of}
 use Rattle.partitions.specs.Map.{Map, partition_at, first_word}
 use Rattle.life_cycle.specs.Words.{counter_words, state_words}
 use Rattle.life_cycle.specs.Transitions.{table_entry}
-use Rattle.model.specs.declared.Answer.{Answer}
-use Rattle.model.specs.declared.Answer.TheVariants.{Done, NotBlank, StrokesUsed}
+use Rattle.model.specs.declared.Failure.TheVariants.{NotBlank, StrokesUsed}
 use Rattle.model.specs.declared.Command.{Command}
 use Rattle.model.specs.declared.Command.TheVariants.{Write, Digest, ReadLock, Transition}
+use Rattle.model.specs.declared.Failure.{Failure}
+use Rattle.model.specs.Answers.{Answer}
 use Rattle.model.specs.Lent.{Machine, Primitives}
 use Rattle.model.specs.Acts.{Effect, no_effect, lock, to_inert, Act}
 use Rattle.model.specs.Commands.{counter_at, state_at, move_act, ready_act, transiting, class_of}
@@ -60,11 +62,11 @@ module _ (prims : Primitives) (map : Map) (m : Machine) where
   -- ---- what may be answered, with the effects that go with it
 
   pub record Answering (T : Answer → Effect → Type 0) (x : Command) : Type 0 where
-    pub refused : {answer : Answer} → Refuses x answer → T answer no_effect
-    pub done : quiet x → (value : ℕ) → T (Done value) no_effect
-    pub not_blank : quiet x → (cell : ℕ) → T (NotBlank cell) no_effect
-    pub locked : (n : ℕ) → x ≡ ReadLock n → T (Done 0) (lock n)
-    pub used : class_of x ≡ transiting → T StrokesUsed to_inert
+    pub refused : {failure : Failure} → Refuses x failure → T (Err failure) no_effect
+    pub done : quiet x → (value : ℕ) → T (Ok value) no_effect
+    pub not_blank : quiet x → (cell : ℕ) → T (Err (NotBlank cell)) no_effect
+    pub locked : (n : ℕ) → x ≡ ReadLock n → T (Ok 0) (lock n)
+    pub used : class_of x ≡ transiting → T (Err StrokesUsed) to_inert
     pub spent : class_of x ≡ transiting → Ends T
 
   form-gives : {T : Answer → Effect → Type 0} {x : Command} {act : Act} → Answering T x → Form prims map m x act → Gives T act

@@ -1,5 +1,6 @@
 -- Which word a 4 names. The idea: a 4 comes of programming a target alone, and programming names the lowest word that refuses; a locked partition is refused
 -- before its words are asked.
+use Rattle.std.specs.Prelude.{Err}
 use mathlib.Core.Path.{◌≡◌, refl, sym, ap, ◌∙◌}
 use mathlib.Core.Bool.{true, not}
 use mathlib.Core.List.{List, [], ◌++◌}
@@ -18,11 +19,10 @@ use Rattle.partitions.specs.Map.{Map, number_at, partition_at, first_word, limit
 use Rattle.life_cycle.specs.Words.{counter_words, state_words}
 use Rattle.life_cycle.specs.Transitions.{table_entry}
 use Rattle.life_cycle.proofs.Encoding.{counter-length}
-use Rattle.model.specs.declared.Answer.{Answer}
-use Rattle.model.specs.declared.Answer.TheVariants.{Denied}
+use Rattle.model.specs.declared.Failure.TheVariants.{Denied}
 use Rattle.model.specs.declared.Command.{Command}
 use Rattle.model.specs.declared.Command.TheVariants.{Write, Digest, Transition, PowerUp}
-use Rattle.model.specs.Answers.{code_of, value_of}
+use Rattle.model.specs.Answers.{Answer, code_of, value_of}
 use Rattle.model.specs.Session.{is_ready, sensed_locked}
 use Rattle.model.specs.Lent.{Machine, Primitives}
 use Rattle.model.specs.Acts.{Act, refuse, perform}
@@ -111,7 +111,7 @@ module _ (prims : Primitives) (map : Map) (m : Machine) where
   unfolding unchanged act performed
   act-tells {rule} {at} {words} x e p =
       step_both prims map (λ (s : Step). AnswerMeans rule cells at words s.result.answer) x m
-      (λ answer j. tells-nothing rule cells at words answer (judged-above (code_of answer) j)) (rw e (perform-programs p m.lent))
+      (λ failure j. tells-nothing rule cells at words (Err failure) (judged-above (code_of (Err failure)) j)) (rw e (perform-programs p m.lent))
 
   target-acts : {x : Command} {rule : Rule} {at : ℕ} {words : List ℕ} → Targets prims map m x rule at words → obey prims map x m ≡ act prims map x m
   unfolding obey

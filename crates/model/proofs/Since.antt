@@ -16,7 +16,7 @@ use Rattle.partitions.specs.Fitness.{fit}
 use Rattle.partitions.proofs.Map.{only, life-cycle-last}
 use Rattle.life_cycle.specs.declared.LifeCycle.{LifeCycle}
 use Rattle.life_cycle.specs.declared.LifeCycle.TheVariants.{Valid, Invalid}
-use Rattle.model.specs.declared.Answer.TheVariants.{LifeCycleFailed}
+use Rattle.model.specs.declared.Failure.TheVariants.{LifeCycleFailed}
 use Rattle.model.specs.declared.Command.{Command}
 use Rattle.model.specs.declared.Command.TheVariants.{Transition, PowerUp}
 use Rattle.model.specs.Answers.{code_of}

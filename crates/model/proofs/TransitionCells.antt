@@ -16,9 +16,8 @@ use Rattle.partitions.specs.Map.{Map, number_of_kind}
 use Rattle.partitions.specs.Fitness.{fit}
 use Rattle.partitions.proofs.Map.{life-cycle-last, life-cycle-partition, partition-fit}
 use Rattle.life_cycle.proofs.Encoding.{counter-length, state-length}
-use Rattle.model.specs.declared.Answer.{Answer}
 use Rattle.model.specs.declared.Command.TheVariants.{Transition}
-use Rattle.model.specs.Answers.{code_of, value_of}
+use Rattle.model.specs.Answers.{Answer, code_of, value_of}
 use Rattle.model.specs.Lent.{Machine, Primitives, right_lengths}
 use Rattle.model.specs.Commands.{life_cycle_rule, counter_at, state_at}
 use Rattle.model.specs.Step.{machine_after, answer_to}

@@ -22,10 +22,9 @@ use Rattle.life_cycle.specs.declared.Entry.TheVariants.{Allowed, Forbidden}
 use Rattle.life_cycle.specs.Words.{state_words}
 use Rattle.life_cycle.specs.Transitions.{table_entry}
 use Rattle.life_cycle.proofs.Encoding.{counter-length}
-use Rattle.model.specs.declared.Answer.{Answer}
-use Rattle.model.specs.declared.Answer.TheVariants.{NotReady}
+use Rattle.model.specs.declared.Failure.TheVariants.{NotReady}
 use Rattle.model.specs.declared.Command.TheVariants.{Transition}
-use Rattle.model.specs.Answers.{code_of, value_of}
+use Rattle.model.specs.Answers.{Answer, code_of, value_of}
 use Rattle.model.specs.Session.{sensed_at, is_ready}
 use Rattle.model.specs.Lent.{Machine, Primitives}
 use Rattle.model.specs.Acts.{Act, refuse, perform}

@@ -1,5 +1,6 @@
 -- The ends of a transition. The idea: past the early refusals it has eight ends, each with what led to it and the cells that it leaves; whatever is claimed of
 -- its answers is read off the list of ends.
+use Rattle.std.specs.Prelude.{Ok, Err}
 use mathlib.Core.Path.{◌≡◌, refl, sym}
 use mathlib.Core.Bool.{Bool, true, false, not}
 use mathlib.Core.List.{List}
@@ -18,10 +19,9 @@ use Rattle.life_cycle.specs.declared.Entry.TheVariants.{Allowed, Forbidden}
 use Rattle.life_cycle.specs.Words.{state_words}
 use Rattle.constants.specs.Constants.{raw_unlock_hash}
 use Rattle.life_cycle.specs.Transitions.{table_entry}
-use Rattle.model.specs.declared.Answer.{Answer}
-use Rattle.model.specs.declared.Answer.TheVariants.{Done, NotBlank, NotReady, UnknownTarget, StrokesUsed, NotInTable, TokenNotLocked, TokenDiffers}
+use Rattle.model.specs.declared.Failure.TheVariants.{NotBlank, NotReady, UnknownTarget, StrokesUsed, NotInTable, TokenNotLocked, TokenDiffers}
 use Rattle.model.specs.declared.Command.TheVariants.{Transition}
-use Rattle.model.specs.Answers.{code_of}
+use Rattle.model.specs.Answers.{Answer, code_of}
 use Rattle.model.specs.Session.{is_ready, sensed_locked, sensed_at}
 use Rattle.model.specs.Lent.{Machine, Primitives, right_lengths, Lent, with_cells}
 use Rattle.model.specs.Acts.{Act, say, program, Performed, perform, with_comparison, no_effect, to_inert, to_dead}
@@ -72,17 +72,17 @@ module _ (prims : Primitives) (map : Map) (m : Machine) (target given : ℕ) whe
   Taken = InRange × (program_answer life_cycle_rule cells₀ (counter_at map) stroke ≡ programmed.Done)
 
   pub data Ending (answer : Answer) (cells : List ℕ) : Type 0 where
-    unknown_target : 20 < target → answer ≡ UnknownTarget → Ending answer cells
-    used : target ≤ 20 → 24 ≤ m.session.count → answer ≡ StrokesUsed → cells ≡ cells₀ → Ending answer cells
-    counter_stops : {cell : ℕ} → InRange → program_answer life_cycle_rule cells₀ (counter_at map) stroke ≡ programmed.Refused cell → answer ≡ NotBlank cell
+    unknown_target : 20 < target → answer ≡ Err UnknownTarget → Ending answer cells
+    used : target ≤ 20 → 24 ≤ m.session.count → answer ≡ Err StrokesUsed → cells ≡ cells₀ → Ending answer cells
+    counter_stops : {cell : ℕ} → InRange → program_answer life_cycle_rule cells₀ (counter_at map) stroke ≡ programmed.Refused cell → answer ≡ Err (NotBlank cell)
         → cells ≡ cells₀ → Ending answer cells
-    not_in_table : Taken → table_entry m.session.state target ≡ Forbidden → answer ≡ NotInTable → cells ≡ stroke-cells → Ending answer cells
-    token_not_locked : Taken → Unlocked prims map m target → answer ≡ TokenNotLocked → cells ≡ stroke-cells → Ending answer cells
-    token_differs : Taken → Asked prims map m target given false → answer ≡ TokenDiffers → cells ≡ stroke-cells → Ending answer cells
+    not_in_table : Taken → table_entry m.session.state target ≡ Forbidden → answer ≡ Err NotInTable → cells ≡ stroke-cells → Ending answer cells
+    token_not_locked : Taken → Unlocked prims map m target → answer ≡ Err TokenNotLocked → cells ≡ stroke-cells → Ending answer cells
+    token_differs : Taken → Asked prims map m target given false → answer ≡ Err TokenDiffers → cells ≡ stroke-cells → Ending answer cells
     state_stops : {cell : ℕ} → Taken → Asked prims map m target given true
         → program_answer life_cycle_rule stroke-cells (state_at map) move ≡ programmed.Refused cell
-        → answer ≡ NotBlank cell → cells ≡ stroke-cells → Ending answer cells
-    moved : Taken → Asked prims map m target given true → program_answer life_cycle_rule stroke-cells (state_at map) move ≡ programmed.Done → answer ≡ Done 0
+        → answer ≡ Err (NotBlank cell) → cells ≡ stroke-cells → Ending answer cells
+    moved : Taken → Asked prims map m target given true → program_answer life_cycle_rule stroke-cells (state_at map) move ≡ programmed.Done → answer ≡ Ok 0
         → cells ≡ program_cells life_cycle_rule stroke-cells (state_at map) move → Ending answer cells
 
   abbrev Ends : Performed → Type 0
@@ -137,8 +137,8 @@ module _ (prims : Primitives) (map : Map) (m : Machine) (target given : ℕ) whe
 
   -- once the record is judged
   pub ends : Ends (perform
-      (when not (leb target 20) then say UnknownTarget no_effect
-      else when not (ltb m.session.count 24) then say StrokesUsed to_inert
+      (when not (leb target 20) then say (Err UnknownTarget) no_effect
+      else when not (ltb m.session.count 24) then say (Err StrokesUsed) to_inert
       else spending) m.lent)
   ends =
       let to : Act → Type 0 = λ a. Ends (perform a m.lent) in
@@ -148,11 +148,11 @@ module _ (prims : Primitives) (map : Map) (m : Machine) (target given : ℕ) whe
 
   -- the whole act: the phase, then the record, then these
   pub act-ends : (high low : ℕ) → given ≡ high * 2 ^ 64 + low
-      → (((outcome prims map (Transition target high low) m).answer ≡ NotReady) × (Fair prims map m → ⊥))
+      → (((outcome prims map (Transition target high low) m).answer ≡ Err NotReady) × (Fair prims map m → ⊥))
       ⊎ ((is_ready m.session.phase ≡ true) × Ends (outcome prims map (Transition target high low) m))
   unfolding ready_act command_act transition_act
   act-ends high low e =
-      let to : Act → Type 0 = λ a. (((perform a m.lent).answer ≡ NotReady) × (Fair prims map m → ⊥))
+      let to : Act → Type 0 = λ a. (((perform a m.lent).answer ≡ Err NotReady) × (Fair prims map m → ⊥))
       ⊎ ((is_ready m.session.phase ≡ true) × Ends (perform a m.lent)) in
       rw (← e) (if-both to _ _ _ (λ t. inl (unfold perform in (refl, λ f. true-not-false f.ready (not-true _ t))))
       λ t. if-both to _ _ _ (λ u. inl

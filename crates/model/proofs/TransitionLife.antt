@@ -18,14 +18,13 @@ use Rattle.life_cycle.specs.declared.Entry.TheVariants.{Allowed}
 use Rattle.life_cycle.specs.Transitions.{table_entry}
 use Rattle.model.specs.declared.Command.{Command}
 use Rattle.model.specs.declared.Command.TheVariants.{Transition}
-use Rattle.model.specs.Answers.{code_of}
+use Rattle.model.specs.Answers.{Answer, code_of}
 use Rattle.model.specs.Session.{is_ready}
 use Rattle.model.specs.Lent.{Machine, Primitives, with_cells}
 use Rattle.model.specs.PowerUp.{life_cycle_in}
 use Rattle.model.specs.Step.{machine_after, answer_to}
 use Rattle.model.specs.Claims.Terms.{ValidInputs}
 use Rattle.model.specs.Claims.Refusals.{early}
-use Rattle.model.specs.declared.Answer.{Answer}
 use Rattle.model.specs.Claims.Transitions.{stroke_only}
 use Rattle.model.proofs.Steps.{step-constants}
 use Rattle.model.proofs.Refusals.{transitions-refuse}

@@ -1,5 +1,6 @@
 -- When a write answers 5, 4 and 0. The idea: the guards of its act are the reasons of a 5, one by one; past them the granule decides, and its words are all
 -- taken or one of them is the lowest that refuses.
+use Rattle.std.specs.Prelude.{Ok, Err}
 use lib.ListN.{length}
 use Rattle.partitions.proofs.Granules.{granule-within}
 use Rattle.words.proofs.Words.{length-words}
@@ -20,11 +21,10 @@ use Rattle.partitions.specs.Fitness.{fit}
 use Rattle.partitions.proofs.KindRights.{life-cycle-only}
 use Rattle.partitions.proofs.Map.{inside}
 use Rattle.partitions.specs.Map.{Map, rights_of, number_at, partition_at, limit, in_digest, first_word}
-use Rattle.model.specs.declared.Answer.{Answer}
-use Rattle.model.specs.declared.Answer.TheVariants.{Done, NotBlank, Denied}
+use Rattle.model.specs.declared.Failure.TheVariants.{NotBlank, Denied}
 use Rattle.model.specs.declared.Command.{Command}
 use Rattle.model.specs.declared.Command.TheVariants.{Write, PowerUp}
-use Rattle.model.specs.Answers.{code_of}
+use Rattle.model.specs.Answers.{Answer, code_of}
 use Rattle.model.specs.Session.{is_ready, sensed_locked, locking}
 use Rattle.model.specs.Lent.{Machine, Primitives}
 use Rattle.model.specs.Acts.{Act, perform, Performed}
@@ -59,9 +59,9 @@ module _ (prims : Primitives) (map : Map) (m : Machine) (a value : ℕ) where
     guards : WriteGuards (partition_at map a) a (sensed_locked m.session (number_at map a))
 
   data WriteEnd (answer : Answer) : Type 0 where
-    denied : WriteDenied prims map m a → answer ≡ Denied → WriteEnd answer
-    stops : {i : ℕ} → Passed → Takes (programmed.Refused i) → answer ≡ NotBlank i → WriteEnd answer
-    done : Passed → Takes programmed.Done → answer ≡ Done 0 → WriteEnd answer
+    denied : WriteDenied prims map m a → answer ≡ Err Denied → WriteEnd answer
+    stops : {i : ℕ} → Passed → Takes (programmed.Refused i) → answer ≡ Err (NotBlank i) → WriteEnd answer
+    done : Passed → Takes programmed.Done → answer ≡ Ok 0 → WriteEnd answer
 
   -- there is then no reason for a 5
   not-denied : Passed → WriteDenied prims map m a → ⊥

@@ -5,10 +5,9 @@ use Rattle.std.specs.Int.Bits.{bit_xor}
 use Rattle.basics.specs.Range.{listed}
 use Rattle.words.specs.Words.{words_of}
 use Rattle.partitions.specs.Map.{Map}
-use Rattle.model.specs.declared.Answer.{Answer}
 use Rattle.model.specs.declared.Command.{Command}
 use Rattle.model.specs.declared.Command.TheVariants.{Read, Write, FrontRead, Digest, ReadLock, Transition, PowerUp}
-use Rattle.model.specs.Answers.{code_of, value_of}
+use Rattle.model.specs.Answers.{Answer, code_of, value_of}
 use Rattle.model.specs.Session.{fresh_session}
 use Rattle.model.specs.Lent.{Machine, Primitives}
 use Rattle.model.specs.Step.{after, answers}

@@ -1,13 +1,12 @@
 -- Writes and burns: nothing is burnt twice but AUTH_STATE data (OldRule.antt), a refusal names its word, what a write stored is what is ever read, and when a
 -- write is done, denied or refused.
-use Rattle.std.specs.Prelude.{ℕ, suc, ◌+◌, ◌/◌, ◌^◌, ◌≤◌, ◌<◌, ◌≡◌, true, List, ◌++◌, ◌↔◌, length, get_or}
+use Rattle.std.specs.Prelude.{ℕ, suc, ◌+◌, ◌/◌, ◌^◌, ◌≤◌, ◌<◌, ◌≡◌, true, List, ◌++◌, ◌↔◌, length, get_or, Ok}
 use Rattle.words.specs.declared.Rule.{Rule}
 use Rattle.words.specs.declared.Rule.TheVariants.{KeepBits, BlankOnly}
 use Rattle.words.specs.Words.{number_of, words_of, part_at}
 use Rattle.words.specs.Programming.{program_answer, Lowest}
 use Rattle.partitions.specs.Map.{Map, rights_of, number_at, partition_at, limit, first_word, word_count}
 use Rattle.life_cycle.specs.Words.{counter_words, state_words}
-use Rattle.model.specs.declared.Answer.TheVariants.{Done}
 use Rattle.model.specs.declared.Command.{Command}
 use Rattle.model.specs.declared.Command.TheVariants.{Read, Write, Digest, Transition, PowerUp}
 use Rattle.model.specs.Answers.{code_of, value_of}
@@ -136,4 +135,4 @@ module _ (prims : Primitives) (map : Map) where
         → (l₂ : List Command) → (number_of (stored_words prims map m.lent.constants a value) ≡ 0 → NotWritten prims map a l₂ s.result.machine)
         → (direct_rule (partition_at map a) a ≡ KeepBits → NotWritten prims map a l₂ s.result.machine)
         → (b shown : ℕ) → first_word (partition_at map b) b ≡ first_word (partition_at map a) a
-        → answer_to prims map (Read b) (after prims map l₂ s.result.machine) ≡ Done shown → shown ≡ used_value map a value
+        → answer_to prims map (Read b) (after prims map l₂ s.result.machine) ≡ Ok shown → shown ≡ used_value map a value

@@ -1,16 +1,14 @@
 -- The terms that claims of several subjects are stated in (document 01, 'Where the promises have to bite').
-use Rattle.std.specs.Prelude.{ℕ, ◌+◌, ◌*◌, ◌^◌, ◌≤◌, ◌<◌, ◌≡◌, true, false, List, [], ◌∷◌, length, get_or}
+use Rattle.std.specs.Prelude.{ℕ, ◌+◌, ◌*◌, ◌^◌, ◌≤◌, ◌<◌, ◌≡◌, true, false, List, [], ◌∷◌, length, get_or, Ok}
 use Rattle.words.specs.declared.Rule.{Rule}
 use Rattle.words.specs.Words.{number_of, words_of, part_at}
 use Rattle.words.specs.Programming.{program_answer}
 use Rattle.partitions.specs.Map.{Map, rights_of, number_at, partition, partition_at, limit, in_digest, first_word, word_count}
 use Rattle.constants.specs.Constants.{valid_constants}
-use Rattle.model.specs.declared.Answer.{Answer}
-use Rattle.model.specs.declared.Answer.TheVariants.{Done}
 use Rattle.model.specs.declared.Command.{Command}
 use Rattle.model.specs.declared.Command.TheVariants.{Read, Write, FrontRead, Digest, ReadLock, Transition, PowerUp}
 use Rattle.model.specs.Session.{locking}
-use Rattle.model.specs.Answers.{code_of, value_of}
+use Rattle.model.specs.Answers.{Answer, code_of, value_of}
 use Rattle.model.specs.Lent.{Machine, Primitives, right_lengths}
 use Rattle.model.specs.Commands.{direct_rule, stored_digest, write_denied, stored_form, class_of, sensing, transiting, access}
 use Rattle.model.specs.Step.{Step, step, machine_after, answer_to}
@@ -129,7 +127,7 @@ module _ (prims : Primitives) (map : Map) where
 
   -- "It takes effect: it answers 0, its granule holds the data, scrambled where secret, and no other cell changes."
   pub record TakesEffect (m : Machine) (a value : ℕ) (s : Step) : Type 0 where
-    pub done : s.result.answer ≡ Done 0
+    pub done : s.result.answer ≡ Ok 0
     pub holds : let p = partition_at map a in
         part_at s.result.machine.lent.cells (first_word p a) (word_count p a) ≡ stored_words prims map m.lent.constants a value
     pub others : (j : ℕ)
