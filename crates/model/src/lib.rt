@@ -113,8 +113,8 @@ impl Session {
     pub fn with_lock(mut self, number: usize) -> Session
         ensures { result ≡ with_lock number self }
     {
-        if let Some(lock) = self.locks.get_mut(number) {
-            *lock = true;
+        if number < ENTRIES {
+            self.locks[number] = true;
         }
         self
     }

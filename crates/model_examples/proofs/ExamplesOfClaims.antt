@@ -1,4 +1,5 @@
 -- Premises of the claims on transitions, digests, read locks, failed power-ups and lists are met: computed runs, and why the premises stand.
+use Rattle.std.specs.Prelude.{Ok, Err}
 use mathlib.Core.Path.{◌≡◌, refl}
 use mathlib.Core.List.{[], ◌∷◌, ◌++◌}
 use Prim.Native.Nat.{◌+◌}
@@ -9,7 +10,7 @@ use Rattle.words.specs.declared.Rule.TheVariants.{KeepBits}
 use Rattle.partitions.specs.Map1.{map1}
 use Rattle.partitions.proofs.Maps.{map1-fit}
 use Rattle.model.specs.declared.Phase.TheVariants.{Ready}
-use Rattle.model.specs.declared.Answer.TheVariants.{Done, Denied, DigestFailed}
+use Rattle.model.specs.declared.Failure.TheVariants.{Denied, DigestFailed}
 use Rattle.model.specs.declared.Command.TheVariants.{Read, Write, Digest, ReadLock, Transition, PowerUp}
 use Rattle.model.specs.Answers.{code_of}
 use Rattle.model.specs.Lent.{Machine, Primitives}
@@ -112,13 +113,13 @@ scrapped = toy-claims.failed_power_ups.sevens (off blank) (right blank refl) (un
 -- without a bound on the digest a power-up fails with nothing written: the digest 2 ^ 64 + 1 is stored as 1
 unbounded :
     answers (toy_with (λ words. 0x10000000000000001)) map1 (PowerUp ∷ Digest 0x200 ∷ PowerUp ∷ []) (off blank)
-    ≡ Done 0 ∷ Done 0x10000000000000001 ∷ DigestFailed 2 ∷ []
+    ≡ Ok 0 ∷ Ok 0x10000000000000001 ∷ Err (DigestFailed 2) ∷ []
 unfolding everything
 unbounded = refl
 
 -- ---- read locks: partition 0 is locked, and a read of its data answers 5 after a write
 
-shut : answer_to toy map1 (Read 0) (after toy map1 (Write 4 1 ∷ []) (machine_after toy map1 (ReadLock 0) (after toy map1 (PowerUp ∷ []) (off blank)))) ≡ Denied
+shut : answer_to toy map1 (Read 0) (after toy map1 (Write 4 1 ∷ []) (machine_after toy map1 (ReadLock 0) (after toy map1 (PowerUp ∷ []) (off blank)))) ≡ Err Denied
 unfolding everything
 shut = toy-claims.read_locks.lasts (off blank) (right blank refl) [] 0 refl (Write 4 1 ∷ []) (tt, tt) 0 refl (lit< tt)
 
@@ -126,7 +127,7 @@ shut = toy-claims.read_locks.lasts (off blank) (right blank refl) [] 0 refl (Wri
 without-locks : Machine
 without-locks = record { lent = (off blank).lent; session = record { phase = Ready; sensed = no_digests; locks = []; state = 0; count = 0 } }
 
-locks-nothing : answers toy map1 (ReadLock 0 ∷ Read 0 ∷ []) without-locks ≡ Done 0 ∷ Done 0 ∷ []
+locks-nothing : answers toy map1 (ReadLock 0 ∷ Read 0 ∷ []) without-locks ≡ Ok 0 ∷ Ok 0 ∷ []
 unfolding everything without-locks
 locks-nothing = refl
 
