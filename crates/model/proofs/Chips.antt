@@ -181,7 +181,7 @@ module _ (prims : Primitives) (map : Map) (F : fit map ≡ true) (H : ℕ → Ty
         (let q = digest-guards (partition_at map a) a (allowed-there map a _ e) in
         rw (computed_same a (allowed-below map a _ e) (λ v. shut (number_at map a) v r (not-locked s (number_at map a) q.unlocked))))
     command-same (ReadLock number) r = refl
-    command-same (Transition target high low) r = refl
+    command-same (Transition target given) r = refl
     command-same PowerUp r = refl
 
     pub decided-same : (x : Command) → ready_act prims map (chip l s) x ≡ ready_act prims map (chip (second l d k') s) x

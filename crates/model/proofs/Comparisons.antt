@@ -150,27 +150,27 @@ module _ (prims : Primitives) (map : Map) (m : Machine) (target given : ℕ) whe
   asks (Allowed TestExit) l = locked prims map m target given (Allowed TestExit) l TestExit (some-token refl)
   asks (Allowed Rma) l = locked prims map m target given (Allowed Rma) l Rma (some-token refl)
 
-module _ (prims : Primitives) (map : Map) (m : Machine) (target high low : ℕ) where
+module _ (prims : Primitives) (map : Map) (m : Machine) (target given : ℕ) where
   abbrev entry : Entry
   entry = table_entry m.session.state target
 
   abbrev ActByCode : Act → Type 0
   ActByCode x = ResultByCode entry (perform x m.lent)
 
-  act-by-code : ActByCode (ready_act prims map m (Transition target high low))
+  act-by-code : ActByCode (ready_act prims map m (Transition target given))
   unfolding ready_act command_act transition_act perform
   act-by-code =
       if-both ActByCode _ _ _ (λ t. without entry 0x07 refl refl) λ t. if-both ActByCode _ _ _ (λ t. without entry 0x07 refl refl)
       λ t. if-both ActByCode _ _ _ (λ t. without entry 0x11 refl refl) λ t. if-both ActByCode _ _ _ (λ t. without entry 0x20 refl refl)
       λ t. after_both (ResultByCode entry)
       (program_answer life_cycle_rule m.lent.cells (counter_at map) (counter_words m.lent.constants (suc m.session.count))) _ _
-      (λ e. asks prims map m target (high * 2 ^ 64 + low) entry _) (λ cell e. without entry 0x04 refl refl)
+      (λ e. asks prims map m target given entry _) (λ cell e. without entry 0x04 refl refl)
 
-  pub step-compared : ByCode entry (code_of (step prims map (Transition target high low) m).result.answer)
-      (step prims map (Transition target high low) m).compared
+  pub step-compared : ByCode entry (code_of (step prims map (Transition target given) m).result.answer)
+      (step prims map (Transition target given) m).compared
   unfolding unchanged obey act performed
   step-compared =
-      step_both prims map (λ (s : Step). ByCode entry (code_of s.result.answer) s.compared) (Transition target high low) m
+      step_both prims map (λ (s : Step). ByCode entry (code_of s.result.answer) s.compared) (Transition target given) m
       (λ failure j. judged-without (code_of (Err failure)) j) act-by-code
     where
       judged-without : (code : ℕ) → judgement_code code ≡ true → ByCode (table_entry m.session.state target) code []
@@ -209,5 +209,5 @@ module _ (prims : Primitives) (map : Map) (m : Machine) where
   no-comparison x n =
       step_both prims map (λ (s : Step). s.compared ≡ []) x m (λ answer j. refl)
       (by-class (λ (x : Command). (class_of x ≡ transiting → ⊥) → (obey prims map x m).compared ≡ []) (λ n. unfold obey power_up in refl)
-      (λ target high low n. absurd (n refl))
+      (λ target given n. absurd (n refl))
       (λ x e n. rw (obeys-act prims map x m (no-power-up x (quiet-not-power-up x (access-quiet x e)))) (act-none x n)) x n)

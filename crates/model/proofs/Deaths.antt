@@ -1,8 +1,8 @@
 -- A phase that becomes Dead carries the code that was answered. The idea: a power-up that fails names its reason with its answer, and of the other
 -- commands only an act that answers 4 makes the phase Dead.
+use Rattle.std.specs.Prelude.{Option, None, Some}
 use mathlib.Core.Path.{◌≡◌, refl, ap, ◌∙◌}
 use mathlib.Core.Bool.{true}
-use mathlib.Core.Option.{Option, none, some}
 use Prim.Native.Nat.{ℕ}
 use native.Mathlib.Omega.{arith}
 use Rattle.basics.proofs.Choice.{if-both, true-not-false, by_cases}
@@ -74,9 +74,9 @@ module _ (prims : Primitives) (map : Map) (m : Machine) where
     powered-reason : (v : Option ℕ) (life : LifeCycle) (l : Lent) → (powered_session map (end_of v life) l).phase ≡ Dead reason
         → code_of (powered_answer (end_of v life)) ≡ reason_code reason
     unfolding end_of life_cycle_end powered_session powered_answer dead-code
-    powered-reason (some number) life l = ap dead-code
-    powered-reason none Invalid l = ap dead-code
-    powered-reason none (Valid state count) l =
+    powered-reason (Some number) life l = ap dead-code
+    powered-reason None Invalid l = ap dead-code
+    powered-reason None (Valid state count) l =
         if-both (λ (w : PowerUpEnd). (powered_session map w l).phase ≡ Dead reason → code_of (powered_answer w) ≡ reason_code reason) _ _ _
         (λ t. ap dead-code) (λ t e. absurd (not_dead e refl))
 

@@ -130,7 +130,7 @@ module _ (prims : Primitives) (map : Map) (F : fit map ≡ true) (n : ℕ) (D : 
   role =
       by-writing (λ (x : Command). (m : Machine) → ValidInputs map m → Role x m) (λ a value m r. write-role m r a value) (λ a m r. digest-role m r a)
       (by-class (λ (x : Command). writing_of x ≡ writes_nothing → (m : Machine) → ValidInputs map m → Role x m) (λ e m r. powers_up refl)
-      (λ target high low e m r. idle-role (Transition target high low) m r e tt) (λ x c e m r. idle-role x m r e (rw (c, not_power_up) tt)))
+      (λ target given e m r. idle-role (Transition target given) m r e tt) (λ x c e m r. idle-role x m r e (rw (c, not_power_up) tt)))
 
   -- ---- the invariant
 

@@ -31,7 +31,7 @@ use Rattle.model.proofs.Guards.{WriteGuards, write-guards, DigestGuards, digest-
 pub data Refuses : Command → Failure → Type 0 where
   denied : {x : Command} → quiet x → Refuses x Denied
   not_ready : {x : Command} → Refuses x NotReady
-  unknown_target : {target high low : ℕ} → Refuses (Transition target high low) UnknownTarget
+  unknown_target : {target given : ℕ} → Refuses (Transition target given) UnknownTarget
 
 pub refuses-above : {x : Command} {failure : Failure} → Refuses x failure → ltb 4 (code_of (Err failure)) ≡ true
 refuses-above (denied q) = refl
@@ -79,10 +79,10 @@ module _ (prims : Primitives) (map : Map) (m : Machine) where
         (say (Ok 0) no_effect))
     digests : {a : ℕ} → Digesting a
         → Form (Digest a) (program digest_rule ((partition_at map a).digest / 2) (words_of 4 (computed a)) no_effect (say (Ok (computed a)) no_effect))
-    used : {target high low : ℕ} → Transits target → 24 ≤ m.session.count → Form (Transition target high low) (say (Err StrokesUsed) to_inert)
-    spends : {target high low : ℕ} → Transits target → m.session.count < 24
-        → Form (Transition target high low) (program life_cycle_rule (counter_at map) (counter_words k (suc m.session.count)) to_dead
-        (authorized_act prims map m (authorization prims map m.session (table_entry m.session.state target) (high * 2 ^ 64 + low)) target))
+    used : {target given : ℕ} → Transits target → 24 ≤ m.session.count → Form (Transition target given) (say (Err StrokesUsed) to_inert)
+    spends : {target given : ℕ} → Transits target → m.session.count < 24
+        → Form (Transition target given) (program life_cycle_rule (counter_at map) (counter_words k (suc m.session.count)) to_dead
+        (authorized_act prims map m (authorization prims map m.session (table_entry m.session.state target) given) target))
 
   choose : {x : Command} (b : Bool) {y z : Act} → (b ≡ true → Form x y) → (b ≡ false → Form x z) → Form x (when b then y else z)
   choose {x} b {y} {z} f g = if-both (Form x) b y z f g
@@ -91,10 +91,10 @@ module _ (prims : Primitives) (map : Map) (m : Machine) where
       → Form x (when leb (limit map) a || rule then refuse Denied else next)
   on-address a rule q f = choose _ (λ t. refuses (denied q)) (λ t. f (allowed-below map a rule t) (allowed-there map a rule t))
 
-  transition-form : is_ready m.session.phase ≡ true → (target high low : ℕ)
-      → Form (Transition target high low) (transition_act prims map m target (high * 2 ^ 64 + low))
+  transition-form : is_ready m.session.phase ≡ true → (target given : ℕ)
+      → Form (Transition target given) (transition_act prims map m target given)
   unfolding transition_act
-  transition-form r target high low =
+  transition-form r target given =
       choose _ (λ t. refuses not_ready) λ t. choose _ (λ t. refuses unknown_target) λ u.
       (let known = not-false _ t in
       let h : Transits target = record {
@@ -112,7 +112,7 @@ module _ (prims : Primitives) (map : Map) (m : Machine) where
   command-form (FrontRead a) r = on-address a _ tt (λ l o. front_reads)
   command-form (Digest a) r = on-address a _ tt (λ l o. digests (record { ready = r; below = l; guards = digest-guards (partition_at map a) a o }))
   command-form (ReadLock number) r = choose _ (λ t. refuses (denied tt)) (λ t. locks)
-  command-form (Transition target high low) r = transition-form r target high low
+  command-form (Transition target given) r = transition-form r target given
   command-form PowerUp r = refuses not_ready
 
   pub act-form : (x : Command) → Form x (ready_act prims map m x)

@@ -109,7 +109,7 @@ last_or (x ∷ l) =
     first : (x : Command) (l : List Command) → NoPowerUp l → Last (x ∷ l) ⊎ NoPowerUp (x ∷ l)
     first =
         by-class (λ (x : Command). (l : List Command) → NoPowerUp l → Last (x ∷ l) ⊎ NoPowerUp (x ∷ l))
-        (λ l u. inl (record { before = []; behind = l; split = refl; no_power_up = u })) (λ target high low l u. inr (tt, u))
+        (λ l u. inl (record { before = []; behind = l; split = refl; no_power_up = u })) (λ target given l u. inr (tt, u))
         (λ x e l u. inr (rw (e, not_power_up) tt, u))
 
 last_of : (l : List Command) → Last (PowerUp ∷ l)

@@ -29,9 +29,9 @@ module _ (prims : Primitives) (map : Map) (m : Machine) where
     pub write : (a value : ℕ) → x ≡ Write a value → Writes prims map m a
         → P (first_word (partition_at map a) a) (stored_words prims map (k prims map m) a value)
     pub digest : (a : ℕ) → x ≡ Digest a → Digesting prims map m a → P ((partition_at map a).digest / 2) (words_of 4 (computed prims map m a))
-    pub counter : (target high low : ℕ) → x ≡ Transition target high low → Transits prims map m target
+    pub counter : (target given : ℕ) → x ≡ Transition target given → Transits prims map m target
         → P (counter_at map) (counter_words (k prims map m) (suc m.session.count))
-    pub state : (target high low : ℕ) → x ≡ Transition target high low → Transits prims map m target → P (state_at map) (state_words (k prims map m) target)
+    pub state : (target given : ℕ) → x ≡ Transition target given → Transits prims map m target → P (state_at map) (state_words (k prims map m) target)
 
   module _ {P : ℕ → List ℕ → Type 0} where
     moves : (target : ℕ) → P (state_at map) (state_words (k prims map m) target) → EndCases prims map m target (Within P)
@@ -52,9 +52,9 @@ module _ (prims : Primitives) (map : Map) (m : Machine) where
     form-within h (writes {a} {value} w) = Within.programs (h.write a value refl w) Within.says
     form-within h (digests {a} w) = Within.programs (h.digest a refl w) Within.says
     form-within h (used t n) = Within.says
-    form-within h (spends {target} {high} {low} t n) =
-        Within.programs (h.counter target high low refl t)
-        (entry-all prims map m target (Within P) (moves target (h.state target high low refl t)) (table_entry m.session.state target) _)
+    form-within h (spends {target} {given} t n) =
+        Within.programs (h.counter target given refl t)
+        (entry-all prims map m target (Within P) (moves target (h.state target given refl t)) (table_entry m.session.state target) _)
 
     pub act-within : {x : Command} → Programming P x → Within P (ready_act prims map m x)
     act-within {x} h = form-within h (act-form prims map m x)

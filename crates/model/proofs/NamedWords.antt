@@ -72,11 +72,11 @@ module _ (prims : Primitives) (map : Map) (m : Machine) where
     compared = λ test same other. compares;
   }
 
-  transition-programs : (target high low : ℕ)
-      → Programs life_cycle_rule (counter_at map) (counter ++ state_words k target) (ready_act prims map m (Transition target high low))
-  transition-programs target high low = by_form (act-form prims map m (Transition target high low))
+  transition-programs : (target given : ℕ)
+      → Programs life_cycle_rule (counter_at map) (counter ++ state_words k target) (ready_act prims map m (Transition target given))
+  transition-programs target given = by_form (act-form prims map m (Transition target given))
     where
-      by_form : {act : Act} → Form prims map m (Transition target high low) act
+      by_form : {act : Act} → Form prims map m (Transition target given) act
           → Programs life_cycle_rule (counter_at map) (counter_words m.lent.constants (suc m.session.count) ++ state_words m.lent.constants target) act
       by_form (Form.refuses r) = refuses (refuses-above r)
       by_form (Form.used t n) = refuses refl
@@ -104,7 +104,7 @@ module _ (prims : Primitives) (map : Map) (m : Machine) where
       → Programs rule at words (ready_act prims map m x)
   target-programs (writing {a} {value} e) = rw (← e) (write-programs a value)
   target-programs (digesting {a}) = digest-programs a
-  target-programs (moving {target} {high} {low}) = transition-programs target high low
+  target-programs (moving {target} {given}) = transition-programs target given
 
   act-tells : {rule : Rule} {at : ℕ} {words : List ℕ} (x : Command) → obey prims map x m ≡ act prims map x m → Programs rule at words (ready_act prims map m x)
       → AnswerMeans rule cells at words (answer_to prims map x m)
@@ -165,7 +165,7 @@ module _ (prims : Primitives) (map : Map) (m : Machine) where
   named : (x : Command) → Names x
   named =
       by-writing Names (λ a value. target-named (writing refl)) (λ a. target-named digesting)
-      (by-class (λ (x : Command). writing_of x ≡ writes_nothing → Names x) (λ e f. absurd (up-idle f)) (λ target high low e. target-named moving)
+      (by-class (λ (x : Command). writing_of x ≡ writes_nothing → Names x) (λ e f. absurd (up-idle f)) (λ target given e. target-named moving)
       (λ x c e f. absurd (idle x c e f)))
 
   -- ---- a locked partition

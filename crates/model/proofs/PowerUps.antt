@@ -1,6 +1,6 @@
 -- Power-ups: what they depend on, twice in a row, and where they fail. The idea: a power-up reads cells and constants alone.
+use Rattle.std.specs.Prelude.{Option, None, Some}
 use mathlib.Core.Path.{◌≡◌, refl, ap, ap₂, ◌∙◌}
-use mathlib.Core.Option.{Option, none, some}
 use mathlib.Core.Bool.{true}
 use mathlib.Core.List.{List}
 use Prim.Native.Nat.{ℕ, ◌/◌}
@@ -121,9 +121,9 @@ module _ (prims : Primitives) (map : Map) where
 
   powered-failed : (v : Option ℕ) (life : LifeCycle) (l : Lent) → Failed (end_of v life) l
   unfolding end_of life_cycle_end powered_answer powered_copy powered_session when◌then◌else◌
-  powered-failed (some number) life l = λ n. (refl, refl)
-  powered-failed none Invalid l = λ n. (refl, refl)
-  powered-failed none (Valid state count) l = by_cases (eqb state 20) (λ t. rw t (λ n. (refl, refl))) (λ t. rw t (λ n. absurd (n refl)))
+  powered-failed (Some number) life l = λ n. (refl, refl)
+  powered-failed None Invalid l = λ n. (refl, refl)
+  powered-failed None (Valid state count) l = by_cases (eqb state 20) (λ t. rw t (λ n. (refl, refl))) (λ t. rw t (λ n. absurd (n refl)))
 
   pub failed : (m : Machine) → ValidInputs map m
       → let code = code_of (answer_to prims map PowerUp m) in

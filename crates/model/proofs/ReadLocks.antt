@@ -103,7 +103,7 @@ module _ (prims : Primitives) (map : Map) (n : ℕ) where
   by-locks (FrontRead a) m ys f g = g refl
   by-locks (Digest a) m ys f g = g refl
   by-locks (ReadLock number) m ys f g = g refl
-  by-locks (Transition target high low) m ys f g = g refl
+  by-locks (Transition target given) m ys f g = g refl
   by-locks PowerUp m ys f g = g refl
 
   -- a read of something else answers alike

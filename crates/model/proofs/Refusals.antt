@@ -1,10 +1,9 @@
 -- A refusal changes nothing. The idea: a command but transition and power-up says its only answer other than 0 with nothing done, or programs once
 -- and refuses that; a transition refuses early with nothing done, or changes the phase with each later answer.
-use Rattle.std.specs.Prelude.{Ok, Err}
+use Rattle.std.specs.Prelude.{Ok, Err, Option}
 use mathlib.Core.Path.{◌≡◌, refl}
 use mathlib.Core.Bool.{true, false}
 use mathlib.Core.List.{List}
-use mathlib.Core.Option.{Option}
 use Prim.Native.Nat.{ℕ}
 use lib.Dec.{eqb}
 use borrow.Author.Tests.{eqb-false}
@@ -127,7 +126,7 @@ module _ (prims : Primitives) (map : Map) (m : Machine) where
   abbrev Ends-so : Act → Type 0
   Ends-so act = Ended m.session m.lent.cells (perform act m.lent)
 
-  refused-early : {target high low : ℕ} {failure : Failure} → Refuses (Transition target high low) failure → early (code_of (Err failure)) ≡ true
+  refused-early : {target given : ℕ} {failure : Failure} → Refuses (Transition target given) failure → early (code_of (Err failure)) ≡ true
   unfolding early
   refused-early (Refuses.denied q) = absurd q
   refused-early Refuses.not_ready = refl
@@ -138,7 +137,7 @@ module _ (prims : Primitives) (map : Map) (m : Machine) where
       let l = perform-gives g m.lent in
       ((λ j. absurd (true-not-false j l.0)), λ j. (l.2 m.session, λ u. absurd (l.1 u)))
 
-  form-ends : {target high low : ℕ} {act : Act} → Form prims map m (Transition target high low) act → Ends-so act
+  form-ends : {target given : ℕ} {act : Act} → Form prims map m (Transition target given) act → Ends-so act
   unfolding perform early phase_after effect_on when◌then◌else◌
   form-ends (Form.refuses r) = ((λ j. (refl, refl)), λ j. absurd (true-not-false (refused-early r) j))
   form-ends (Form.used t n) = ((λ j. absurd (true-not-false j refl)), λ j. (refl, λ u. refl))
@@ -155,10 +154,10 @@ module _ (prims : Primitives) (map : Map) (m : Machine) where
       × (s.result.machine.session ≡ in_phase (phase_after code) m.session)
       × (code ≡ 0x20 → s.result.machine.lent.cells ≡ m.lent.cells))
 
-  pub transitions-refuse : (target high low : ℕ) → Transited (step prims map (Transition target high low) m)
+  pub transitions-refuse : (target given : ℕ) → Transited (step prims map (Transition target given) m)
   unfolding unchanged obey act performed
-  transitions-refuse target high low =
-      let x = Transition target high low in
+  transitions-refuse target given =
+      let x = Transition target given in
       let r : Performed = perform (ready_act prims map m x) m.lent in
       let ended : Ended m.session m.lent.cells r = form-ends (act-form prims map m x) in
       step_both prims map Transited x m (λ failure e. ((λ j. refl), λ j. absurd (true-not-false (judged-early (code_of (Err failure)) e) j)))

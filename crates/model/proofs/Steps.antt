@@ -1,9 +1,8 @@
 -- One command and lists of commands, whatever the command. The idea: a step is a refusal that changes nothing, a power-up or a performed act.
-use Rattle.std.specs.Prelude.{Err}
+use Rattle.std.specs.Prelude.{Err, Option, Some, None}
 use mathlib.Core.Path.{◌≡◌, refl, sym, ◌∙◌, ap}
 use mathlib.Core.Bool.{true, not, false}
 use mathlib.Core.List.{List, [], ◌∷◌, ◌++◌}
-use mathlib.Core.Option.{Option, some, none}
 use Prim.Native.Nat.{ℕ, ◌/◌}
 use lib.Dec.{eqb}
 use lib.ListN.{length}
@@ -40,7 +39,7 @@ unfolding performed effect_on
 same-machine m r e f = rw (e, f) refl
 
 -- nothing is refused where lengths are right and constants valid, and only there
-pub judgement-right : (map : Map) (sizes : Sizes) (k : List ℕ) → judgement map sizes k ≡ none
+pub judgement-right : (map : Map) (sizes : Sizes) (k : List ℕ) → judgement map sizes k ≡ None
     → (right_sizes map sizes (length k) ≡ true) × (valid_constants k ≡ true)
 unfolding judgement
 judgement-right map sizes k e =
@@ -70,7 +69,7 @@ module _ (prims : Primitives) (map : Map) where
   unfolding obey
   by-obeying {X} =
       by-class (λ (x : Command). (x ≡ PowerUp → X) → (((m : Machine) → obey prims map x m ≡ act prims map x m) → X) → X)
-      (λ f g. f refl) (λ target high low f g. g (λ m. refl)) (λ x e f g. g (λ m. rw (e, obey) refl))
+      (λ f g. f refl) (λ target given f g. g (λ m. refl)) (λ x e f g. g (λ m. rw (e, obey) refl))
 
   pub obeys-act : (x : Command) (m : Machine) → (x ≡ PowerUp → ⊥) → obey prims map x m ≡ act prims map x m
   obeys-act x m n = by-obeying x (λ e. absurd (n e)) (λ e. e m)
@@ -87,15 +86,15 @@ module _ (prims : Primitives) (map : Map) where
       → (right_lengths map m.lent ≡ true → valid_constants m.lent.constants ≡ true → Q (obey prims map x m)) → Q (step prims map x m)
   unfolding step judgement
   step-judged Q x m u v h =
-      let to : Option Failure → Type 0 = λ o. Q (elim o [ some failure ↦ unchanged failure m | none ↦ obey prims map x m ]) in
+      let to : Option Failure → Type 0 = λ o. Q (elim o [ Some failure ↦ unchanged failure m | None ↦ obey prims map x m ]) in
       if-both to (not (right_lengths map m.lent)) _ _ (λ e. u (not-true _ e))
       (λ e. if-both to (not (valid_constants m.lent.constants)) _ _ (λ f. v (not-false _ e) (not-true _ f)) (λ f. h (not-false _ e) (not-false _ f)))
 
-  pub accepted-step : (x : Command) (m : Machine) → judgement map (sizes_of m.lent) m.lent.constants ≡ none → step prims map x m ≡ obey prims map x m
+  pub accepted-step : (x : Command) (m : Machine) → judgement map (sizes_of m.lent) m.lent.constants ≡ None → step prims map x m ≡ obey prims map x m
   unfolding step
   accepted-step x m e = rw (e, step)
 
-  pub refused-step : (x : Command) (m : Machine) (failure : Failure) → judgement map (sizes_of m.lent) m.lent.constants ≡ some failure
+  pub refused-step : (x : Command) (m : Machine) (failure : Failure) → judgement map (sizes_of m.lent) m.lent.constants ≡ Some failure
       → step prims map x m ≡ unchanged failure m
   unfolding step
   refused-step x m failure e = rw (e, step)

@@ -157,9 +157,9 @@ module _ (prims : Primitives) (map : Map) (F : fit map ≡ true) (m : Machine) (
       stopped = λ q. absurd (omega arith);
     })
 
-module _ (prims : Primitives) (map : Map) (m : Machine) (target high low : ℕ) where
-  pub step-told : fit map ≡ true → CellsByCode prims map m target (high * 2 ^ 64 + low) (answer_to prims map (Transition target high low) m)
-      (machine_after prims map (Transition target high low) m).lent.cells
+module _ (prims : Primitives) (map : Map) (m : Machine) (target given : ℕ) where
+  pub step-told : fit map ≡ true → CellsByCode prims map m target given (answer_to prims map (Transition target given) m)
+      (machine_after prims map (Transition target given) m).lent.cells
   step-told F =
-      ⊎_elim (λ a. early-told prims map m target (high * 2 ^ 64 + low) _ _ a.0) (λ a. told prims map F m a.0 target (high * 2 ^ 64 + low) a.2)
-      (step-ends prims map m target high low)
+      ⊎_elim (λ a. early-told prims map m target given _ _ a.0) (λ a. told prims map F m a.0 target given a.2)
+      (step-ends prims map m target given)

@@ -147,33 +147,29 @@ module _ (prims : Primitives) (map : Map) (m : Machine) (target given : ℕ) whe
       λ u. spends (leb-true target 20 (not-false _ t), ltb-true m.session.count 24 (not-false _ u))
 
   -- the whole act: the phase, then the record, then these
-  pub act-ends : (high low : ℕ) → given ≡ high * 2 ^ 64 + low
-      → (((outcome prims map (Transition target high low) m).answer ≡ Err NotReady) × (Fair prims map m → ⊥))
-      ⊎ ((is_ready m.session.phase ≡ true) × Ends (outcome prims map (Transition target high low) m))
+  pub act-ends : (((outcome prims map (Transition target given) m).answer ≡ Err NotReady) × (Fair prims map m → ⊥))
+      ⊎ ((is_ready m.session.phase ≡ true) × Ends (outcome prims map (Transition target given) m))
   unfolding ready_act command_act transition_act
-  act-ends high low e =
+  act-ends =
       let to : Act → Type 0 = λ a. (((perform a m.lent).answer ≡ Err NotReady) × (Fair prims map m → ⊥))
       ⊎ ((is_ready m.session.phase ≡ true) × Ends (perform a m.lent)) in
-      rw (← e) (if-both to _ _ _ (λ t. inl (unfold perform in (refl, λ f. true-not-false f.ready (not-true _ t))))
+      if-both to _ _ _ (λ t. inl (unfold perform in (refl, λ f. true-not-false f.ready (not-true _ t))))
       λ t. if-both to _ _ _ (λ u. inl
       (unfold perform in (refl, λ f. true-not-false (and_both (leb m.session.state 20) _ (le-leb _ _ f.state) (le-leb _ _ f.count)) (not-true _ u))))
-      λ u. inr (not-false _ t, ends))
+      λ u. inr (not-false _ t, ends)
 
 -- ---- the whole command
 
-module _ (prims : Primitives) (map : Map) (m : Machine) (target high low : ℕ) where
-  abbrev token : ℕ
-  token = high * 2 ^ 64 + low
-
+module _ (prims : Primitives) (map : Map) (m : Machine) (target given : ℕ) where
   -- it is refused early, by a chip that is not fair, or it comes to one of the ends
   abbrev pub Ended : Answer → List ℕ → Type 0
   Ended answer cells =
       ((early (code_of answer) ≡ true) × (Fair prims map m → ⊥))
-      ⊎ ((right_lengths map m.lent ≡ true) × (is_ready m.session.phase ≡ true) × Ending prims map m target token answer cells)
+      ⊎ ((right_lengths map m.lent ≡ true) × (is_ready m.session.phase ≡ true) × Ending prims map m target given answer cells)
 
-  pub step-ends : Ended (answer_to prims map (Transition target high low) m) (machine_after prims map (Transition target high low) m).lent.cells
+  pub step-ends : Ended (answer_to prims map (Transition target given) m) (machine_after prims map (Transition target given) m).lent.cells
   unfolding unchanged obey act performed early
   step-ends =
-      step-judged prims map (λ (s : Step). Ended s.result.answer s.result.machine.lent.cells) (Transition target high low) m
+      step-judged prims map (λ (s : Step). Ended s.result.answer s.result.machine.lent.cells) (Transition target given) m
       (λ e. inl (refl, λ f. true-not-false f.lengths e)) (λ e v. inl (refl, λ f. true-not-false f.valid v))
-      (λ e v. ⊎_elim (λ a. inl (rw a.0 refl, a.1)) (λ a. inr (e, a.0, a.1)) (act-ends prims map m target token high low refl))
+      (λ e v. ⊎_elim (λ a. inl (rw a.0 refl, a.1)) (λ a. inr (e, a.0, a.1)) (act-ends prims map m target given))

@@ -212,7 +212,7 @@ module _ (prims : Primitives) (map : Map) (m : Machine) where
   command_act (FrontRead a) = front_read_act a
   command_act (Digest a) = digest_act a
   command_act (ReadLock number) = read_lock_act number
-  command_act (Transition target high low) = transition_act target (high * 2 ^ 64 + low)
+  command_act (Transition target given) = transition_act target given
   command_act PowerUp = refuse NotReady
 
   -- "phase is not Ready (except at power-up)"
@@ -231,5 +231,5 @@ class_of (Write a value) = access
 class_of (FrontRead a) = access
 class_of (Digest a) = access
 class_of (ReadLock number) = access
-class_of (Transition target high low) = transiting
+class_of (Transition target given) = transiting
 class_of PowerUp = sensing

@@ -1,6 +1,5 @@
 -- Power-up, "from any phase".
-use Rattle.std.specs.Prelude.{ℕ, ◌+◌, ◌*◌, ◌-◌, ◌/◌, Bool, not, ◌&&◌, ◌||◌, List, eqb, length, get_or, Ok, Err}
-use Rattle.std.proofs.Math.Option.{Option, none, some}
+use Rattle.std.specs.Prelude.{ℕ, ◌+◌, ◌*◌, ◌-◌, ◌/◌, Bool, not, ◌&&◌, ◌||◌, List, eqb, length, get_or, Ok, Err, Option, None, Some}
 use Rattle.basics.specs.Choice.{when◌then◌else◌}
 use Rattle.basics.specs.Range.{listed, first_not}
 use Rattle.words.specs.Words.{words_of, part_at}
@@ -41,8 +40,8 @@ life_cycle_end (Valid state count) =
 
 -- "the first that differs gives 6 and Dead 6. Then .."
 unfoldable pub end_of : Option ℕ → LifeCycle → PowerUpEnd
-end_of (some number) life = fails reason.DigestFailed (DigestFailed number)
-end_of none life = life_cycle_end life
+end_of (Some number) life = fails reason.DigestFailed (DigestFailed number)
+end_of None life = life_cycle_end life
 
 module _ (prims : Primitives) where
   -- "Partitions 2 to 5 ..: a nonzero stored digest must equal the one recomputed" (2 to 5 are those with a hardware digest)

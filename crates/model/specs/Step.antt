@@ -1,6 +1,5 @@
 -- One command, and lists of commands: "each gets the cells, copy and record that the last one left".
-use Rattle.std.specs.Prelude.{ℕ, Bool, not, List, [], ◌∷◌, length, Err}
-use Rattle.std.proofs.Math.Option.{Option, none, some}
+use Rattle.std.specs.Prelude.{ℕ, Bool, not, List, [], ◌∷◌, length, Err, Option, None, Some}
 use Rattle.basics.specs.Choice.{when◌then◌else◌}
 use Rattle.partitions.specs.Map.{Map}
 use Rattle.constants.specs.Constants.{valid_constants}
@@ -49,9 +48,9 @@ performed r m =
 -- not.
 unfoldable pub judgement : Map → Sizes → List ℕ → Option Failure
 judgement map sizes constants =
-    when not (right_sizes map sizes (length constants)) then some WrongLength
-    else when not (valid_constants constants) then some InvalidConstants
-    else none
+    when not (right_sizes map sizes (length constants)) then Some WrongLength
+    else when not (valid_constants constants) then Some InvalidConstants
+    else None
 
 module _ (prims : Primitives) (map : Map) where
   -- a command but power-up: decided, then performed
@@ -80,7 +79,7 @@ module _ (prims : Primitives) (map : Map) where
   obey x m = elim (class_of x) [ sensing ↦ power_up m | transiting ↦ act x m | access ↦ act x m ]
 
   unfoldable pub step : Command → Machine → Step
-  step x m = elim (judgement map (sizes_of m.lent) m.lent.constants) [ some failure ↦ unchanged failure m | none ↦ obey x m ]
+  step x m = elim (judgement map (sizes_of m.lent) m.lent.constants) [ Some failure ↦ unchanged failure m | None ↦ obey x m ]
 
   -- the machine after a command, and the answer
   abbrev pub machine_after : Command → Machine → Machine

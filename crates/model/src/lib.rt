@@ -62,7 +62,7 @@ pub enum Failure {
 // What a command answers: the value that it is done with, or why it is not.
 pub type Answer = Result<u64, Failure>;
 
-// A command: addresses are byte addresses, a token comes as its high and its low 64 bits.
+// A command: addresses are byte addresses; a transition has the state to go to and the token given.
 #[derive(Clone, Copy, PartialEq, Eq, Debug)]
 pub enum Command {
     Read(u32),
@@ -70,7 +70,7 @@ pub enum Command {
     FrontRead(u32),
     Digest(u32),
     ReadLock(u8),
-    Transition(u8, u64, u64),
+    Transition(u8, u128),
     PowerUp,
 }
 

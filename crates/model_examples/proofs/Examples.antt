@@ -97,7 +97,7 @@ one-granule = refl
 -- ---- Ready lasts through a refused write to the granule, a read lock elsewhere and a transition that answers 0x11
 
 staying : List Command
-staying = Write 0x002 0xAA ∷ ReadLock 1 ∷ Transition 21 0 0 ∷ []
+staying = Write 0x002 0xAA ∷ ReadLock 1 ∷ Transition 21 0 ∷ []
 
 still-ready : Lasts toy map1 staying wrote
 unfolding everything Lasts staying wrote
@@ -126,7 +126,7 @@ secret-reads-back = refl
 -- ---- it lasts: a write that clears no bit is refused, a transition and a power-up follow, and 0x001 still reads the same
 
 passing : List Command
-passing = Write 0x002 0xFF ∷ Transition 1 0 7 ∷ PowerUp ∷ []
+passing = Write 0x002 0xFF ∷ Transition 1 7 ∷ PowerUp ∷ []
 
 not-zero : number_of (stored_words toy map1 (off blank).lent.constants 0x003 0x55) ≡ 0 → ⊥
 unfolding everything
@@ -155,7 +155,7 @@ wrote-zero : Machine
 wrote-zero = machine_after toy map1 (Write 0x003 0) (machine_after toy map1 PowerUp (off blank))
 
 not-writing : List Command
-not-writing = Write 0x004 0xFF ∷ Transition 1 0 7 ∷ PowerUp ∷ []
+not-writing = Write 0x004 0xFF ∷ Transition 1 7 ∷ PowerUp ∷ []
 
 passed : NotWritten toy map1 0x003 not-writing wrote-zero
 unfolding everything NotWritten not-writing wrote-zero
@@ -214,13 +214,13 @@ digest-named : Named toy map1 (after toy map1 (PowerUp ∷ Digest 0x200 ∷ []) 
 unfolding everything
 digest-named = toy-claims.burns.refused (off blank) (PowerUp ∷ Digest 0x200 ∷ []) (Digest 0x200) refl
 
-stroke-named : Named toy map1 (ready 0 (set blank 404 4)) (Transition 1 0 7) 404
+stroke-named : Named toy map1 (ready 0 (set blank 404 4)) (Transition 1 7) 404
 unfolding everything
-stroke-named = toy-claims.burns.refused (ready 0 (set blank 404 4)) [] (Transition 1 0 7) refl
+stroke-named = toy-claims.burns.refused (ready 0 (set blank 404 4)) [] (Transition 1 7) refl
 
-state-named : Named toy map1 (ready 0 (set blank 430 4)) (Transition 1 0 7) 430
+state-named : Named toy map1 (ready 0 (set blank 430 4)) (Transition 1 7) 430
 unfolding everything
-state-named = toy-claims.burns.refused (ready 0 (set blank 430 4)) [] (Transition 1 0 7) refl
+state-named = toy-claims.burns.refused (ready 0 (set blank 430 4)) [] (Transition 1 7) refl
 
 -- ---- a lock: with a digest of 1 written to CREATOR_SW_CFG, the next power-up finds it locked
 
@@ -300,7 +300,7 @@ alike = record { at = word }
         (λ t. unfold other in (sym (get_or-set_other one 296 j 5 0 (eqb-false j 296 t))))
 
 trying : List Command
-trying = Read 0x250 ∷ Write 0x250 1 ∷ Digest 0x250 ∷ Read 0x270 ∷ Transition 1 0 7 ∷ []
+trying = Read 0x250 ∷ Write 0x250 1 ∷ Digest 0x250 ∷ Read 0x270 ∷ Transition 1 7 ∷ []
 
 matched : Matched toy map1 (PowerUp ∷ trying) (off one) (off other)
 unfolding everything Matched one other trying
@@ -320,7 +320,7 @@ chips-agree =
 exchanged : List ℕ
 exchanged = set tested 304 9
 
-token-matched : Matched toy map1 (PowerUp ∷ Transition 3 0 0x71 ∷ []) (off tested) (off exchanged)
+token-matched : Matched toy map1 (PowerUp ∷ Transition 3 0x71 ∷ []) (off tested) (off exchanged)
 unfolding everything Matched tested exchanged
 token-matched = (tt, (refl, tt), ((refl, tt), tt, tt))
 
@@ -334,7 +334,7 @@ token-wrong : Asked toy map1 (after toy map1 (PowerUp ∷ []) (off tested)) 3 0x
 unfolding everything tested
 token-wrong = (toy-claims.transitions.tokens (after toy map1 (PowerUp ∷ []) (off tested)) 3 0 0x70).1 refl
 
-third-stroke : (after toy map1 (PowerUp ∷ Transition 3 0 0x70 ∷ []) (off tested)).lent.cells ≡ set tested 406 3
+third-stroke : (after toy map1 (PowerUp ∷ Transition 3 0x70 ∷ []) (off tested)).lent.cells ≡ set tested 406 3
 unfolding everything tested
 third-stroke = refl
 
@@ -349,7 +349,7 @@ front-read = refl
 
 -- ---- a progress: RAW to TEST_UNLOCKED0 spends a stroke and takes an entry of the table
 
-progress-taken : life_cycle_in map1 (after toy map1 (PowerUp ∷ Transition 1 0 7 ∷ []) (off blank)).lent ≡ Valid 1 1
+progress-taken : life_cycle_in map1 (after toy map1 (PowerUp ∷ Transition 1 7 ∷ []) (off blank)).lent ≡ Valid 1 1
 unfolding everything
 progress-taken = refl
 

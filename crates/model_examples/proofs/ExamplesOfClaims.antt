@@ -45,20 +45,20 @@ fair-later : Fair toy map1 (after toy map1 (PowerUp ∷ Write 0 5 ∷ []) (off b
 fair-later = (toy-claims.transitions.fair (off blank) (right blank refl) (Write 0 5 ∷ []) (unfold everything in refl)).0
 
 -- TEST_LOCKED0 to TEST_UNLOCKED1 with SECRET0 open: 0x22, and the stroke is burnt; RAW to TEST_UNLOCKED0 with the right token: 0, and the state words too
-stroke-burnt : Put KeepBits 404 (stroke_words toy map1 (ready 2 blank)) blank (machine_after toy map1 (Transition 3 0 0) (ready 2 blank)).lent.cells
+stroke-burnt : Put KeepBits 404 (stroke_words toy map1 (ready 2 blank)) blank (machine_after toy map1 (Transition 3 0) (ready 2 blank)).lent.cells
 unfolding everything stroke_only
 stroke-burnt = toy-claims.transitions.spent (ready 2 blank) 3 0 0 refl
 
-move-burnt : Put KeepBits 404 (move_words toy map1 (ready 0 blank) 1) blank (machine_after toy map1 (Transition 1 0 7) (ready 0 blank)).lent.cells
+move-burnt : Put KeepBits 404 (move_words toy map1 (ready 0 blank) 1) blank (machine_after toy map1 (Transition 1 7) (ready 0 blank)).lent.cells
 unfolding everything
 move-burnt = toy-claims.transitions.moved (ready 0 blank) 1 0 7 refl
 
 -- a counter word that would lose a bit, and a state word that would
-counter-stopped : Stopped toy map1 (ready 0 (set blank 404 4)) 1 404 (machine_after toy map1 (Transition 1 0 7) (ready 0 (set blank 404 4))).lent.cells
+counter-stopped : Stopped toy map1 (ready 0 (set blank 404 4)) 1 404 (machine_after toy map1 (Transition 1 7) (ready 0 (set blank 404 4))).lent.cells
 unfolding everything
 counter-stopped = toy-claims.transitions.stopped (ready 0 (set blank 404 4)) 1 0 7 refl
 
-state-stopped : Stopped toy map1 (ready 0 (set blank 430 4)) 1 430 (machine_after toy map1 (Transition 1 0 7) (ready 0 (set blank 430 4))).lent.cells
+state-stopped : Stopped toy map1 (ready 0 (set blank 430 4)) 1 430 (machine_after toy map1 (Transition 1 7) (ready 0 (set blank 430 4))).lent.cells
 unfolding everything
 state-stopped = toy-claims.transitions.stopped (ready 0 (set blank 430 4)) 1 0 7 refl
 
@@ -66,16 +66,16 @@ state-stopped = toy-claims.transitions.stopped (ready 0 (set blank 430 4)) 1 0 7
 spent-all : Machine
 spent-all = record { lent = (off blank).lent; session = record { phase = Ready; sensed = no_digests; locks = no_locks; state = 1; count = 24 } }
 
-no-stroke-left : (machine_after toy map1 (Transition 20 0 0) spent-all).lent.cells ≡ blank
+no-stroke-left : (machine_after toy map1 (Transition 20 0) spent-all).lent.cells ≡ blank
 unfolding everything spent-all
 no-stroke-left = toy-claims.transitions.used spent-all 20 0 0 refl
 
 -- RAW to DEV is not in the table: one stroke, state RAW, and the next power-up answers 256
-left-raw : Leaves toy map1 0 1 (machine_after toy map1 (Transition 16 0 0) (after toy map1 (PowerUp ∷ []) (off blank)))
+left-raw : Leaves toy map1 0 1 (machine_after toy map1 (Transition 16 0) (after toy map1 (PowerUp ∷ []) (off blank)))
 unfolding everything stroke_only
 left-raw = (toy-claims.transitions.leaves (off blank) (right blank refl) [] 16 0 0).0 refl
 
-answered-256 : Says 0x00 256 (answer_to toy map1 PowerUp (machine_after toy map1 (Transition 16 0 0) (after toy map1 (PowerUp ∷ []) (off blank))))
+answered-256 : Says 0x00 256 (answer_to toy map1 PowerUp (machine_after toy map1 (Transition 16 0) (after toy map1 (PowerUp ∷ []) (off blank))))
 unfolding everything
 answered-256 = left-raw.answered [] tt refl
 
@@ -107,8 +107,8 @@ written_after =
     (unfold everything summing in (refl, refl))
 
 -- SCRAP after one stroke
-scrapped : Scrapped toy map1 (machine_after toy map1 PowerUp (off blank)) (Transition 20 0 0 ∷ [])
-scrapped = toy-claims.failed_power_ups.sevens (off blank) (right blank refl) (unfold everything in refl) (Transition 20 0 0 ∷ []) (unfold everything in refl)
+scrapped : Scrapped toy map1 (machine_after toy map1 PowerUp (off blank)) (Transition 20 0 ∷ [])
+scrapped = toy-claims.failed_power_ups.sevens (off blank) (right blank refl) (unfold everything in refl) (Transition 20 0 ∷ []) (unfold everything in refl)
 
 -- without a bound on the digest a power-up fails with nothing written: the digest 2 ^ 64 + 1 is stored as 1
 unbounded :

@@ -150,11 +150,11 @@ tested-map2 =
     replicate 0x24C 0 ++ (0x71 ∷ 0 ∷ 0 ∷ 0 ∷ 1 ∷ 0 ∷ 0 ∷ 0 ∷ []) ++ replicate 8 0 ++ (1 ∷ replicate 91 0) ++ (3 ∷ 3 ∷ replicate 22 1)
     ++ (3 ∷ 3 ∷ replicate 18 1)
 
-token-taken : answers toy map2 (PowerUp ∷ Transition 3 0 0x71 ∷ PowerUp ∷ []) (off-map2 tested-map2) ≡ Ok 514 ∷ Ok 0 ∷ Ok 771 ∷ []
+token-taken : answers toy map2 (PowerUp ∷ Transition 3 0x71 ∷ PowerUp ∷ []) (off-map2 tested-map2) ≡ Ok 514 ∷ Ok 0 ∷ Ok 771 ∷ []
 unfolding everything map2 tested-map2
 token-taken = refl
 
-token-refused : answers toy map2 (PowerUp ∷ Transition 3 0 0x70 ∷ PowerUp ∷ []) (off-map2 tested-map2) ≡ Ok 514 ∷ Err TokenDiffers ∷ Ok 770 ∷ []
+token-refused : answers toy map2 (PowerUp ∷ Transition 3 0x70 ∷ PowerUp ∷ []) (off-map2 tested-map2) ≡ Ok 514 ∷ Err TokenDiffers ∷ Ok 770 ∷ []
 unfolding everything map2 tested-map2
 token-refused = refl
 
@@ -163,8 +163,8 @@ exiting : List ℕ
 exiting = replicate 0x254 0 ++ (0x91 ∷ 0 ∷ 0 ∷ 0 ∷ 1 ∷ 0 ∷ 0 ∷ 0 ∷ []) ++ (1 ∷ replicate 91 0) ++ (3 ∷ replicate 23 1) ++ (3 ∷ replicate 19 1)
 
 exit-taken :
-    (answers toy map2 (PowerUp ∷ Transition 16 0 0x91 ∷ PowerUp ∷ []) (off-map2 exiting) ≡ Ok 257 ∷ Ok 0 ∷ Ok 528 ∷ [])
-    × (answers toy map2 (PowerUp ∷ Transition 16 0 0x90 ∷ PowerUp ∷ []) (off-map2 exiting) ≡ Ok 257 ∷ Err TokenDiffers ∷ Ok 513 ∷ [])
+    (answers toy map2 (PowerUp ∷ Transition 16 0x91 ∷ PowerUp ∷ []) (off-map2 exiting) ≡ Ok 257 ∷ Ok 0 ∷ Ok 528 ∷ [])
+    × (answers toy map2 (PowerUp ∷ Transition 16 0x90 ∷ PowerUp ∷ []) (off-map2 exiting) ≡ Ok 257 ∷ Err TokenDiffers ∷ Ok 513 ∷ [])
 unfolding everything map2 exiting
 exit-taken = (refl, refl)
 
@@ -175,8 +175,8 @@ returning =
     ++ (replicate 16 3 ++ replicate 4 1)
 
 rma-taken :
-    (answers toy map2 (PowerUp ∷ Transition 19 0 0x81 ∷ PowerUp ∷ []) (off-map2 returning) ≡ Ok 272 ∷ Ok 0 ∷ Ok 531 ∷ [])
-    × (answers toy map2 (PowerUp ∷ Transition 19 0 0x80 ∷ PowerUp ∷ []) (off-map2 returning) ≡ Ok 272 ∷ Err TokenDiffers ∷ Ok 528 ∷ [])
+    (answers toy map2 (PowerUp ∷ Transition 19 0x81 ∷ PowerUp ∷ []) (off-map2 returning) ≡ Ok 272 ∷ Ok 0 ∷ Ok 531 ∷ [])
+    × (answers toy map2 (PowerUp ∷ Transition 19 0x80 ∷ PowerUp ∷ []) (off-map2 returning) ≡ Ok 272 ∷ Err TokenDiffers ∷ Ok 528 ∷ [])
 unfolding everything map2 returning
 rma-taken = (refl, refl)
 

@@ -18,11 +18,11 @@ use Rattle.model.proofs.ToyChip.{toy_with, toy, off, ready, tested}
 
 -- ---- a token of a locked partition: TEST_LOCKED0 goes to TEST_UNLOCKED1
 
-token-taken : answers toy map1 (PowerUp ∷ Transition 3 0 0x71 ∷ PowerUp ∷ []) (off tested) ≡ Ok 514 ∷ Ok 0 ∷ Ok 771 ∷ []
+token-taken : answers toy map1 (PowerUp ∷ Transition 3 0x71 ∷ PowerUp ∷ []) (off tested) ≡ Ok 514 ∷ Ok 0 ∷ Ok 771 ∷ []
 unfolding everything tested
 token-taken = refl
 
-token-refused : answers toy map1 (PowerUp ∷ Transition 3 0 0x70 ∷ PowerUp ∷ []) (off tested) ≡ Ok 514 ∷ Err TokenDiffers ∷ Ok 770 ∷ []
+token-refused : answers toy map1 (PowerUp ∷ Transition 3 0x70 ∷ PowerUp ∷ []) (off tested) ≡ Ok 514 ∷ Err TokenDiffers ∷ Ok 770 ∷ []
 unfolding everything tested
 token-refused = refl
 
@@ -103,25 +103,25 @@ copy-zeroed = refl
 
 -- "A 4 at either programming leaves that step's words alone": a counter word that refuses
 stroke-refused :
-    (answer_to toy map1 (Transition 1 0 7) (ready 0 (set blank 404 4)) ≡ Err (NotBlank 404))
-    × ((machine_after toy map1 (Transition 1 0 7) (ready 0 (set blank 404 4))).lent.cells ≡ set blank 404 4)
-    × ((machine_after toy map1 (Transition 1 0 7) (ready 0 (set blank 404 4))).session.phase ≡ Dead BitCleared)
+    (answer_to toy map1 (Transition 1 7) (ready 0 (set blank 404 4)) ≡ Err (NotBlank 404))
+    × ((machine_after toy map1 (Transition 1 7) (ready 0 (set blank 404 4))).lent.cells ≡ set blank 404 4)
+    × ((machine_after toy map1 (Transition 1 7) (ready 0 (set blank 404 4))).session.phase ≡ Dead BitCleared)
 unfolding everything
 stroke-refused = (refl, refl, refl)
 
 -- a state word that refuses, once the stroke is spent: the counter words stand
 state-refused :
-    (answer_to toy map1 (Transition 1 0 7) (ready 0 (set blank 430 4)) ≡ Err (NotBlank 430))
-    × ((machine_after toy map1 (Transition 1 0 7) (ready 0 (set blank 430 4))).lent.cells
+    (answer_to toy map1 (Transition 1 7) (ready 0 (set blank 430 4)) ≡ Err (NotBlank 430))
+    × ((machine_after toy map1 (Transition 1 7) (ready 0 (set blank 430 4))).lent.cells
     ≡ replicate 404 0 ++ (3 ∷ replicate 23 1) ++ (0 ∷ 0 ∷ 4 ∷ replicate 17 0))
 unfolding everything
 state-refused = (refl, refl)
 
 -- 7 for a record's state above 20, before 0x11 for the target; 0x11 changes nothing
-record-above : answer_to toy map1 (Transition 21 0 7) (ready 21 blank) ≡ Err NotReady
+record-above : answer_to toy map1 (Transition 21 7) (ready 21 blank) ≡ Err NotReady
 unfolding everything
 record-above = refl
 
-target-above : (step toy map1 (Transition 21 0 7) (ready 0 blank)).result ≡ record { machine = ready 0 blank; answer = Err UnknownTarget }
+target-above : (step toy map1 (Transition 21 7) (ready 0 blank)).result ≡ record { machine = ready 0 blank; answer = Err UnknownTarget }
 unfolding everything
 target-above = refl

@@ -30,8 +30,8 @@ module _ (prims : Primitives) (map : Map) where
     digesting : {a : ℕ}
         → Targets m (Digest a) digest_rule ((partition_at map a).digest / 2)
         (words_of 4 (computed_digest prims m.lent.constants (partition_at map a) m.lent.cells))
-    moving : {target high low : ℕ}
-        → Targets m (Transition target high low) life_cycle_rule (counter_at map)
+    moving : {target given : ℕ}
+        → Targets m (Transition target given) life_cycle_rule (counter_at map)
         (counter_words m.lent.constants (suc m.session.count) ++ state_words m.lent.constants target)
 
   -- of the words that the command is to program, the word i is the lowest that refuses

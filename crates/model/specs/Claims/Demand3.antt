@@ -46,5 +46,5 @@ module _ (prims : Primitives) (map : Map) where
         × ((after prims map (PowerUp ∷ l) m).session ≡ (after prims map (PowerUp ∷ l) n).session)
         × Alike map m.lent.cells n.lent.cells (after prims map (PowerUp ∷ l) m).lent.cells (after prims map (PowerUp ∷ l) n).lent.cells
     -- a transition in such a list never answers 4
-    pub strokes : (m : Machine) → ValidInputs map m → (l : List Command) (target high low : ℕ)
-        → code_of (answer_to prims map (Transition target high low) (after prims map (PowerUp ∷ l) m)) ≡ 0x04 → ⊥
+    pub strokes : (m : Machine) → ValidInputs map m → (l : List Command) (target given : ℕ)
+        → code_of (answer_to prims map (Transition target given) (after prims map (PowerUp ∷ l) m)) ≡ 0x04 → ⊥

@@ -1,6 +1,5 @@
 -- Sensing: what a power-up finds, and that it stays until the next.
-use Rattle.std.specs.Prelude.{ℕ, ◌/◌, ◌≡◌, true, false, List, [], ◌∷◌, ◌++◌, eqb, replicate, Ok}
-use Rattle.std.proofs.Math.Option.{none}
+use Rattle.std.specs.Prelude.{ℕ, ◌/◌, ◌≡◌, true, false, List, [], ◌∷◌, ◌++◌, eqb, replicate, Ok, None}
 use Rattle.basics.specs.Choice.{when◌then◌else◌}
 use Rattle.basics.specs.Range.{listed}
 use Rattle.partitions.specs.Map.{Map, number_at, partition, partition_at, limit, number_of_kind}
@@ -28,7 +27,7 @@ module _ (prims : Primitives) (map : Map) where
     pub right : ValidInputs map m
     pub ready : is_ready m.session.phase ≡ true
     -- every nonzero stored digest was the one recomputed
-    pub checked : first_failing prims map m.lent.constants c₀ ≡ none
+    pub checked : first_failing prims map m.lent.constants c₀ ≡ None
     -- "sensed digests of 0 to 5 are the stored ones; the copy holds 2 to 6, secret data unscrambled": both as found then
     pub sensed : m.session.sensed ≡ digests c₀ map
     pub copy : m.lent.copy ≡ listed (copy_word prims map m.lent.constants c₀) 0 (limit map / 2)

@@ -86,7 +86,7 @@ writing_of (Write a value) = writes_at a value
 writing_of (FrontRead a) = writes_nothing
 writing_of (Digest a) = digests_at a
 writing_of (ReadLock number) = writes_nothing
-writing_of (Transition target high low) = writes_nothing
+writing_of (Transition target given) = writes_nothing
 writing_of PowerUp = writes_nothing
 
 -- the command is no write to the granule of address a that answers 0
