@@ -1,6 +1,6 @@
 -- Two chips that differ only in hidden words answer alike. The idea: both decide the same act, since what an act depends on shows; a performed
 -- act changes no hidden word; and hidden partitions stay locked.
-use Rattle.std.specs.Prelude.{Ok}
+use Rattle.std.specs.Prelude.{Ok, Result, Err, ⊤}
 use mathlib.Core.Path.{◌≡◌, refl, sym, ap, ap₂, subst, ◌∙◌}
 use mathlib.Core.Bool.{Bool, true, false, ◌&&◌}
 use mathlib.Core.List.{List, [], ◌∷◌}
@@ -12,7 +12,6 @@ use Rattle.basics.specs.Choice.{when◌then◌else◌}
 use Rattle.basics.specs.Range.{listed}
 use Rattle.basics.proofs.Choice.{by_cases, true-not-false, not-passed, if-true, if-false, if-same}
 use Rattle.basics.proofs.Range.{length-listed, listed_at, is-listed}
-use Rattle.words.specs.declared.Programmed.{Programmed}
 use Rattle.words.specs.Words.{number_of}
 use Rattle.words.specs.Programming.{program_answer, program_cells}
 use Rattle.words.proofs.Parts.{part_same}
@@ -42,7 +41,6 @@ use Rattle.model.proofs.Frame.{Programmable, unlocked, life_cycle, life-words, l
 use Rattle.model.proofs.Steps.{obey-both, step-obeys, step-up, cells-length, up-inputs, act-inputs}
 use Rattle.model.proofs.Locks.{Locked, up-locked, act-locked}
 use Rattle.model.proofs.Guards.{not-locked, ReadGuards, allowed-below, read-guards, allowed-there, front-open, digest-guards}
-use Rattle.words.specs.declared.Programmed.TheVariants as programmed
 use Rattle.partitions.specs.declared.Kind.TheVariants as kind
 
 -- ---- one act on two chips
@@ -55,11 +53,11 @@ pub record SameOutcome (P : ℕ → Type 0) (r q : Performed) : Type 0 where
 abbrev SameButHidden : (ℕ → Type 0) → Performed → Performed → Type 0
 SameButHidden P r q = Agree r.compared q.compared → SameOutcome P r q
 
-after-same-but-hidden : (Q : Performed → Performed → Type 0) (r : Programmed) (x x' : Performed) (f f' : ℕ → Performed)
+after-same-but-hidden : (Q : Performed → Performed → Type 0) (r : Result ⊤ ℕ) (x x' : Performed) (f f' : ℕ → Performed)
     → Q x x' → ((cell : ℕ) → Q (f cell) (f' cell)) → Q (after_program r x f) (after_program r x' f')
 unfolding after_program
-after-same-but-hidden Q programmed.Done x x' f f' h g = h
-after-same-but-hidden Q (programmed.Refused cell) x x' f f' h g = g cell
+after-same-but-hidden Q (Ok done) x x' f f' h g = h
+after-same-but-hidden Q (Err cell) x x' f f' h g = g cell
 
 if-same-but-hidden : (Q : Performed → Performed → Type 0) {b b' : Bool} (x y x' y' : Performed) → b ≡ b' → Q x x' → Q y y'
     → Q (when b then x else y) (when b' then x' else y')

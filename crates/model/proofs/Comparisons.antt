@@ -1,5 +1,5 @@
 -- The token comparisons of a transition. The idea: an act compares once at most, and the code of its answer fixes whether it did and with which result.
-use Rattle.std.specs.Prelude.{Err}
+use Rattle.std.specs.Prelude.{Err, Result, ⊤}
 use mathlib.Core.Path.{◌≡◌, refl, ap}
 use mathlib.Core.Bool.{Bool, true, false}
 use mathlib.Core.List.{List, [], ◌∷◌}
@@ -11,7 +11,6 @@ use borrow.Author.Tests.{eqb-false}
 use Rattle.basics.specs.Choice.{when◌then◌else◌}
 use Rattle.basics.proofs.Choice.{true-not-false, if-both}
 use Rattle.words.specs.Programming.{program_answer}
-use Rattle.words.specs.declared.Programmed.{Programmed}
 use Rattle.partitions.specs.Map.{Map}
 use Rattle.life_cycle.specs.declared.Token.{Token}
 use Rattle.life_cycle.specs.declared.Token.TheVariants.{Nothing, RawUnlock, TestUnlock, TestExit, Rma}
@@ -185,7 +184,7 @@ module _ (prims : Primitives) (map : Map) (m : Machine) (target given : ℕ) whe
 -- ---- the other commands compare nothing
 
 module _ (prims : Primitives) (map : Map) (m : Machine) where
-  after_none : (r : Programmed) (x : Performed) (f : ℕ → Performed) → x.compared ≡ [] → ((cell : ℕ) → (f cell).compared ≡ [])
+  after_none : (r : Result ⊤ ℕ) (x : Performed) (f : ℕ → Performed) → x.compared ≡ [] → ((cell : ℕ) → (f cell).compared ≡ [])
       → (after_program r x f).compared ≡ []
   after_none r x f e h = after_both (λ (p : Performed). p.compared ≡ []) r x f (λ q. e) (λ cell q. h cell)
 

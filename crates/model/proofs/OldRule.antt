@@ -42,7 +42,6 @@ use Rattle.model.proofs.Writes.{write-decided, write-takes, step_stays}
 use Rattle.model.proofs.Forms.{Writes}
 use Rattle.model.proofs.Classes.{by-writing}
 use Rattle.model.proofs.Guards.{write-open}
-use Rattle.words.specs.declared.Programmed.TheVariants as programmed
 
 -- ---- the rule of a place
 
@@ -148,7 +147,7 @@ module _ (prims : Primitives) (C : Cipher prims) (map : Map) (F : fit map ≡ tr
         → let rule = direct_rule (partition_at map b) b in
         let at = first_word (partition_at map b) b in
         let words = stored_words prims map m.lent.constants b value in
-        program_answer rule cells at words ≡ programmed.Done
+        program_answer rule cells at words ≡ Ok tt
         → Gains a (two_words cells a) (Write b value) (Ok 0) (two_words (program_cells rule cells at words) a)
     written right b value w same done =
         let t = there w.below same in

@@ -1,5 +1,5 @@
 -- What an act programs in all. The idea: it programs its words in pieces that adjoin, the lowest first, so that it answers as if they were programmed at once.
-use Rattle.std.specs.Prelude.{Ok}
+use Rattle.std.specs.Prelude.{Ok, Err}
 use mathlib.Core.Path.{◌≡◌, refl, sym, ◌∙◌}
 use mathlib.Core.Bool.{Bool, true}
 use mathlib.Core.List.{List, [], ◌++◌, append-nil}
@@ -16,7 +16,6 @@ use Rattle.model.specs.Answers.{Answer, code_of, value_of}
 use Rattle.model.specs.Lent.{Lent, with_cells}
 use Rattle.model.specs.Acts.{Effect, Act, say, program, compare, Performed, with_comparison, perform}
 use Rattle.model.proofs.Acts.{after_both}
-use Rattle.words.specs.declared.Programmed.TheVariants as programmed
 
 -- by the rule, the act programs the words from a place on: it refuses with a code above 4, or piece by piece it comes to the end and answers 0
 pub data Programs (rule : Rule) : ℕ → List ℕ → Act → Type 0 where
@@ -36,8 +35,8 @@ last-piece {words = words} = burns (sym (append-nil words)) refl ends
 -- what its answer means: 0, that every word was taken; 4, which was refused
 abbrev pub AnswerMeans : Rule → List ℕ → ℕ → List ℕ → Answer → Type 0
 AnswerMeans rule cells at words answer =
-    (code_of answer ≡ 0x00 → program_answer rule cells at words ≡ programmed.Done)
-    × (code_of answer ≡ 0x04 → program_answer rule cells at words ≡ programmed.Refused (value_of answer))
+    (code_of answer ≡ 0x00 → program_answer rule cells at words ≡ Ok tt)
+    × (code_of answer ≡ 0x04 → program_answer rule cells at words ≡ Err (value_of answer))
 
 -- a code above 4 means neither
 pub tells-nothing : (rule : Rule) (cells : List ℕ) (at : ℕ) (words : List ℕ) (answer : Answer) → ltb 4 (code_of answer) ≡ true
@@ -45,7 +44,7 @@ pub tells-nothing : (rule : Rule) (cells : List ℕ) (at : ℕ) (words : List �
 tells-nothing rule cells at words answer e = let above = ltb-true 4 (code_of answer) e in ((λ z. absurd (omega arith)), λ f. absurd (omega arith))
 
 -- once a piece is done, the rest is asked of words that it did not change
-goes_on : (rule : Rule) (cells piece rest : List ℕ) (at next-at : ℕ) → next-at ≡ at + length piece → program_answer rule cells at piece ≡ programmed.Done
+goes_on : (rule : Rule) (cells piece rest : List ℕ) (at next-at : ℕ) → next-at ≡ at + length piece → program_answer rule cells at piece ≡ Ok tt
     → program_answer rule cells at (piece ++ rest) ≡ program_answer rule (program_cells rule cells at piece) next-at rest
 goes_on rule cells piece rest at next-at place e =
     rw place (append-next rule piece rest cells at e

@@ -28,12 +28,11 @@ use Rattle.model.specs.Answers.{code_of}
 use Rattle.model.proofs.Steps.{outcome, step_both}
 use Rattle.model.proofs.Forms.{Writes, Digesting, computed, Form, act-form, refuses-not-done}
 use Rattle.model.proofs.Acts.{after_both}
-use Rattle.words.specs.declared.Programmed.TheVariants as programmed
 
 -- what the act of a command that programs once comes to: it leaves every cell, or the words are programmed whole
 pub data Burnt (W : Type 0) (cells : List ℕ) (rule : Rule) (at : ℕ) (words : List ℕ) (value : ℕ) (r : Performed) : Type 0 where
   left : r.cells ≡ cells → Burnt W cells rule at words value r
-  burnt : W → program_answer rule cells at words ≡ programmed.Done → r.cells ≡ program_cells rule cells at words → r.answer ≡ Ok value
+  burnt : W → program_answer rule cells at words ≡ Ok tt → r.cells ≡ program_cells rule cells at words → r.answer ≡ Ok value
       → Burnt W cells rule at words value r
 
 module _ (prims : Primitives) (map : Map) (m : Machine) where

@@ -1,5 +1,6 @@
 -- When a transition gives each code. The idea: where the words are taken, the table's entry and the token decide the code (`due`); each end has that code, or a
 -- 4.
+use Rattle.std.specs.Prelude.{Ok, Err}
 use Rattle.basics.specs.Choice.{when◌then◌else◌}
 use Rattle.model.specs.Claims.Terms.{ValidInputs, Says}
 use mathlib.Core.Path.{◌≡◌, refl, sym, ap, ◌∙◌}
@@ -39,7 +40,6 @@ use Rattle.model.proofs.TransitionEnds.{ends, stroke-cells, move, Ending, unknow
 use Rattle.model.proofs.TransitionEnds.{state_stops, moved, InRange, step-ends}
 use Rattle.model.specs.declared.Phase.TheVariants as phase
 use Rattle.partitions.specs.declared.Kind.TheVariants as kind
-use Rattle.words.specs.declared.Programmed.TheVariants as programmed
 
 module _ (prims : Primitives) (map : Map) (m : Machine) (target given : ℕ) where
   -- the code that the table's entry comes to, where the words are taken
@@ -195,9 +195,9 @@ module _ (prims : Primitives) (map : Map) (m : Machine) (target given : ℕ) whe
   record StateRefused : Type 0 where
     same : due ≡ 0x00
     cell : ℕ
-    refused : program_answer life_cycle_rule m.lent.cells (state_at map) (state_words m.lent.constants target) ≡ programmed.Refused cell
+    refused : program_answer life_cycle_rule m.lent.cells (state_at map) (state_words m.lent.constants target) ≡ Err cell
 
-  state-refused : program_answer life_cycle_rule m.lent.cells (counter_at map) (stroke_words prims map m) ≡ programmed.Done → Stops prims map m target given
+  state-refused : program_answer life_cycle_rule m.lent.cells (counter_at map) (stroke_words prims map m) ≡ Ok tt → Stops prims map m target given
       → StateRefused
   unfolding same_code
   state-refused e (counter_refused h) = absurd (refused-not-done (sym h ∙ e))

@@ -33,7 +33,6 @@ use Rattle.model.specs.Claims.Refusals.{early}
 use Rattle.model.specs.Claims.Transitions.{Stored, Compared, Asked, stroke_only, test_unlock, test_exit, rma, stroke_words, Fair, Unlocked}
 use Rattle.model.proofs.Acts.{after_both}
 use Rattle.model.proofs.Steps.{outcome, step-judged}
-use Rattle.words.specs.declared.Programmed.TheVariants as programmed
 
 -- a comparison, as numbers that are equal or not
 agreed : (x y : ℕ) (same : Bool) → eqb y x ≡ same → Agrees x y same
@@ -69,20 +68,20 @@ module _ (prims : Primitives) (map : Map) (m : Machine) (target given : ℕ) whe
   InRange = (target ≤ 20) × (m.session.count < 24)
 
   abbrev pub Taken : Type 0
-  Taken = InRange × (program_answer life_cycle_rule cells₀ (counter_at map) stroke ≡ programmed.Done)
+  Taken = InRange × (program_answer life_cycle_rule cells₀ (counter_at map) stroke ≡ Ok tt)
 
   pub data Ending (answer : Answer) (cells : List ℕ) : Type 0 where
     unknown_target : 20 < target → answer ≡ Err UnknownTarget → Ending answer cells
     used : target ≤ 20 → 24 ≤ m.session.count → answer ≡ Err StrokesUsed → cells ≡ cells₀ → Ending answer cells
-    counter_stops : {cell : ℕ} → InRange → program_answer life_cycle_rule cells₀ (counter_at map) stroke ≡ programmed.Refused cell → answer ≡ Err (NotBlank cell)
+    counter_stops : {cell : ℕ} → InRange → program_answer life_cycle_rule cells₀ (counter_at map) stroke ≡ Err cell → answer ≡ Err (NotBlank cell)
         → cells ≡ cells₀ → Ending answer cells
     not_in_table : Taken → table_entry m.session.state target ≡ Forbidden → answer ≡ Err NotInTable → cells ≡ stroke-cells → Ending answer cells
     token_not_locked : Taken → Unlocked prims map m target → answer ≡ Err TokenNotLocked → cells ≡ stroke-cells → Ending answer cells
     token_differs : Taken → Asked prims map m target given false → answer ≡ Err TokenDiffers → cells ≡ stroke-cells → Ending answer cells
     state_stops : {cell : ℕ} → Taken → Asked prims map m target given true
-        → program_answer life_cycle_rule stroke-cells (state_at map) move ≡ programmed.Refused cell
+        → program_answer life_cycle_rule stroke-cells (state_at map) move ≡ Err cell
         → answer ≡ Err (NotBlank cell) → cells ≡ stroke-cells → Ending answer cells
-    moved : Taken → Asked prims map m target given true → program_answer life_cycle_rule stroke-cells (state_at map) move ≡ programmed.Done → answer ≡ Ok 0
+    moved : Taken → Asked prims map m target given true → program_answer life_cycle_rule stroke-cells (state_at map) move ≡ Ok tt → answer ≡ Ok 0
         → cells ≡ program_cells life_cycle_rule stroke-cells (state_at map) move → Ending answer cells
 
   abbrev Ends : Performed → Type 0

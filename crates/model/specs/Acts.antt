@@ -1,9 +1,7 @@
 -- A command is first decided, as an act, and then performed on what is lent: it says an answer, programs words, or compares a token.
-use Rattle.std.specs.Prelude.{ℕ, Bool, List, [], ◌∷◌, Err}
+use Rattle.std.specs.Prelude.{ℕ, Bool, List, [], ◌∷◌, Err, Result, Ok, ⊤}
 use Rattle.basics.specs.Choice.{when◌then◌else◌}
 use Rattle.words.specs.declared.Rule.{Rule}
-use Rattle.words.specs.declared.Programmed.{Programmed}
-use Rattle.words.specs.declared.Programmed.TheVariants as programmed
 use Rattle.words.specs.Programming.{program_answer, program_cells}
 use Rattle.model.specs.declared.Reason.TheVariants as reason
 use Rattle.model.specs.declared.Phase.TheVariants.{Inert, Dead}
@@ -46,9 +44,9 @@ pub record Performed : Type 0 where
   pub compared : List Bool
 
 -- done words lead on, a refused cell ends the act
-unfoldable pub after_program : Programmed → Performed → (ℕ → Performed) → Performed
-after_program programmed.Done next refused = next
-after_program (programmed.Refused cell) next refused = refused cell
+unfoldable pub after_program : Result ⊤ ℕ → Performed → (ℕ → Performed) → Performed
+after_program (Ok done) next refused = next
+after_program (Err cell) next refused = refused cell
 
 -- a comparison's result stands before those of what follows
 unfoldable pub with_comparison : Bool → Performed → Performed

@@ -17,7 +17,6 @@ use Rattle.model.specs.Step.{step, after, machine_after, answer_to}
 use Rattle.model.specs.Claims.Terms.{ValidInputs, Says, Put, stored_words, NotWritten, Allowed, used_value}
 use Rattle.model.specs.Claims.Numbers.{KeyAt, Plain, Hardware, Lockable, LowestBurnt, LowestCleared, eight_from}
 use Rattle.model.specs.Claims.Demand3.{Ready}
-use Rattle.words.specs.declared.Programmed.TheVariants as programmed
 use Rattle.partitions.specs.declared.Kind.TheVariants as kind
 use Rattle.model.specs.declared.Phase.TheVariants as phase
 
@@ -93,7 +92,7 @@ module _ (prims : Primitives) (map : Map) where
         let words = stored_words prims map m.lent.constants a value in
         (Says 0x05 0 answer ↔ WriteDenied m a)
         × ((i : ℕ) → Says 0x04 i answer ↔ ((WriteDenied m a → ⊥) × Lowest (direct_rule p a) m.lent.cells (first_word p a) words i))
-        × (Says 0x00 0 answer ↔ ((WriteDenied m a → ⊥) × (program_answer (direct_rule p a) m.lent.cells (first_word p a) words ≡ programmed.Done)))
+        × (Says 0x00 0 answer ↔ ((WriteDenied m a → ⊥) × (program_answer (direct_rule p a) m.lent.cells (first_word p a) words ≡ Ok tt)))
     -- "Otherwise the words become the value": a write that answers 0 programs these words from its granule's first on, and no other cell changes
     pub puts : (m : Machine) → ValidInputs map m → (a value : ℕ) → code_of (answer_to prims map (Write a value) m) ≡ 0x00
         → let p = partition_at map a in

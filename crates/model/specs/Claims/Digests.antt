@@ -13,7 +13,6 @@ use Rattle.model.specs.Step.{after, machine_after, answer_to}
 use Rattle.model.specs.Claims.Terms.{ValidInputs, Says, Put, Digested, writing_of, writes_at, digests_at, writes_nothing}
 use Rattle.model.specs.Claims.Numbers.{Hardware, LowestBurnt, digest_of}
 use Rattle.model.specs.declared.Phase.TheVariants as phase
-use Rattle.words.specs.declared.Programmed.TheVariants as programmed
 
 -- the command puts a number of 64 bits in the digest of partition n, whole: a write of it there, or a digest command that answers it; and it answers 0
 pub data Puts (map : Map) (n digest : ℕ) : Command → Answer → Type 0 where
@@ -55,7 +54,7 @@ module _ (prims : Primitives) (map : Map) where
     pub hardware : (rights_of (partition_at map a).kind).hardware ≡ true
     pub start : a ≡ (partition_at map a).start
     pub not_locked : sensed_locked m.session (number_at map a) ≡ false
-    pub takes : program_answer digest_rule m.lent.cells ((partition_at map a).digest / 2) (words_of 4 (digest_now (number_at map a) m)) ≡ programmed.Done
+    pub takes : program_answer digest_rule m.lent.cells ((partition_at map a).digest / 2) (words_of 4 (digest_now (number_at map a) m)) ≡ Ok tt
 
   -- where a digest comes from that partition n holds after the commands l: it was there before them, or one of them put it there
   pub data Source (m : Machine) (l : List Command) (n digest : ℕ) : Type 0 where

@@ -12,7 +12,6 @@ use Rattle.model.specs.Answers.{Answer, code_of, value_of}
 use Rattle.model.specs.Lent.{Machine, Primitives, right_lengths}
 use Rattle.model.specs.Commands.{direct_rule, stored_digest, write_denied, stored_form, class_of, sensing, transiting, access}
 use Rattle.model.specs.Step.{Step, step, machine_after, answer_to}
-use Rattle.words.specs.declared.Programmed.TheVariants as programmed
 
 -- lent lengths right, cells and constants words of 16 bits, constants valid; what cells, copy and record hold is free
 pub record ValidInputs (map : Map) (m : Machine) : Type 0 where
@@ -39,7 +38,7 @@ Says code value answer = (code_of answer ≡ code) × (value_of answer ≡ value
 
 -- "Otherwise the words become the value": every word is taken, they stand there, and no other cell changes
 pub record Put (rule : Rule) (at : ℕ) (words before after : List ℕ) : Type 0 where
-  pub taken : program_answer rule before at words ≡ programmed.Done
+  pub taken : program_answer rule before at words ≡ Ok tt
   pub holds : part_at after at (length words) ≡ words
   pub others : (j : ℕ) → (at ≤ j → j < at + length words → ⊥) → get_or after j 0 ≡ get_or before j 0
 
@@ -123,7 +122,7 @@ module _ (prims : Primitives) (map : Map) where
     pub below : a < limit map
     pub not_denied : write_denied (locking (stored_digest (partition_at map a) c₀)) (partition_at map a) a ≡ false
     pub takes : program_answer (direct_rule (partition_at map a) a) c (first_word (partition_at map a) a) (stored_words prims map constants a value)
-        ≡ programmed.Done
+        ≡ Ok tt
 
   -- "It takes effect: it answers 0, its granule holds the data, scrambled where secret, and no other cell changes."
   pub record TakesEffect (m : Machine) (a value : ℕ) (s : Step) : Type 0 where

@@ -1,5 +1,5 @@
 -- Transitions: which cells each answer leaves, when each is given, what the life cycle words stand for afterwards, and where the stored tokens lie.
-use Rattle.std.specs.Prelude.{ℕ, suc, ◌+◌, ◌*◌, ◌/◌, ◌^◌, ◌≤◌, ◌<◌, ◌≡◌, Bool, true, false, ◌||◌, List, [], ◌∷◌, ◌++◌, ◌↔◌, ◌⊎◌, eqb, None}
+use Rattle.std.specs.Prelude.{ℕ, suc, ◌+◌, ◌*◌, ◌/◌, ◌^◌, ◌≤◌, ◌<◌, ◌≡◌, Bool, true, false, ◌||◌, List, [], ◌∷◌, ◌++◌, ◌↔◌, ◌⊎◌, eqb, None, Ok, Err}
 use Rattle.basics.specs.Choice.{when◌then◌else◌}
 use Rattle.words.specs.Words.{number_of, part_at}
 use Rattle.words.specs.Programming.{program_answer}
@@ -27,7 +27,6 @@ use Rattle.model.specs.Claims.Numbers.{Agrees, eight_from}
 use Rattle.model.specs.Claims.Refusals.{early}
 use Rattle.model.specs.declared.Phase.TheVariants as phase
 use Rattle.partitions.specs.declared.Kind.TheVariants as kind
-use Rattle.words.specs.declared.Programmed.TheVariants as programmed
 use Rattle.life_cycle.specs.declared.Entry.TheVariants as entry
 
 -- the codes after the stroke, with no move: "then 0x21; 0x22; 0x23"
@@ -79,17 +78,17 @@ module _ (prims : Primitives) (map : Map) where
 
   -- a programmed bit of the counter words would be cleared; or, where the table's token was given, one of the state words
   pub data Stops (m : Machine) (target given : ℕ) : Type 0 where
-    counter_refused : {cell : ℕ} → program_answer life_cycle_rule m.lent.cells (counter_at map) (stroke_words m) ≡ programmed.Refused cell
+    counter_refused : {cell : ℕ} → program_answer life_cycle_rule m.lent.cells (counter_at map) (stroke_words m) ≡ Err cell
         → Stops m target given
-    state_refused : {cell : ℕ} → program_answer life_cycle_rule m.lent.cells (counter_at map) (stroke_words m) ≡ programmed.Done → Asked m target given true
-        → program_answer life_cycle_rule m.lent.cells (state_at map) (state_words m.lent.constants target) ≡ programmed.Refused cell → Stops m target given
+    state_refused : {cell : ℕ} → program_answer life_cycle_rule m.lent.cells (counter_at map) (stroke_words m) ≡ Ok tt → Asked m target given true
+        → program_answer life_cycle_rule m.lent.cells (state_at map) (state_words m.lent.constants target) ≡ Err cell → Stops m target given
 
   -- "A 4 at either programming leaves that step's words alone": the word named, and the cells after it
   pub data Stopped (m : Machine) (target cell : ℕ) (cells : List ℕ) : Type 0 where
-    counter : program_answer life_cycle_rule m.lent.cells (counter_at map) (stroke_words m) ≡ programmed.Refused cell → cells ≡ m.lent.cells
+    counter : program_answer life_cycle_rule m.lent.cells (counter_at map) (stroke_words m) ≡ Err cell → cells ≡ m.lent.cells
         → Stopped m target cell cells
     state : Put life_cycle_rule (counter_at map) (stroke_words m) m.lent.cells cells
-        → program_answer life_cycle_rule cells (state_at map) (state_words m.lent.constants target) ≡ programmed.Refused cell → Stopped m target cell cells
+        → program_answer life_cycle_rule cells (state_at map) (state_words m.lent.constants target) ≡ Err cell → Stopped m target cell cells
 
   -- a Ready chip that gives none of 0x10, 0x12 and 0x07
   pub record Fair (m : Machine) : Type 0 where
