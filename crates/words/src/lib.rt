@@ -35,11 +35,7 @@ pub fn join(words: &[u16]) -> u64
     ensures { result ≡ number_of (take 4 words.now) }
 {
     let lowest = &words[..words.len().min(4)];
-    let mut x = 0;
-    for word in lowest.iter().rev() {
-        x = u64::from(*word) + 65536 * x;
-    }
-    x
+    lowest.iter().rev().fold(0, |x, word| (x << 16) | u64::from(*word))
 }
 
 // The number of the four words from `at` on, zeros past the last word.
@@ -62,7 +58,7 @@ pub fn eight_words(words: &[u16], at: usize) -> u128
     }
     let low = u128::from(block_at(words, at));
     let high = u128::from(block_at(words, at + 4));
-    (high << 64) + low
+    (high << 64) | low
 }
 
 // Whether a stored word refuses a word of a value.
