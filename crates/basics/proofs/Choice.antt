@@ -1,10 +1,10 @@
 -- Laws of Booleans and of choice. The idea: a test whose value a goal doesn't show is taken apart once, here.
 use mathlib.Core.Path.{◌≡◌, refl, sym, subst, ◌∙◌}
-use mathlib.Core.Option.{Option, none, some}
 use mathlib.Core.Bool.{Bool, true, false, ◌&&◌, ◌||◌}
 use Prim.Native.Nat.{ℕ}
 use native.Mathlib.Omega.{arith}
 use lib.Dec.{T}
+use Rattle.std.specs.Prelude.{Option, Some, None}
 use Rattle.basics.specs.Choice.{when◌then◌else◌}
 
 -- a test is true or false, and each case may use which
@@ -13,9 +13,9 @@ by_cases true f g = f refl
 by_cases false f g = g refl
 
 -- something or nothing, likewise
-pub by-option {ℓ κ} : {A : Type κ} {X : Type ℓ} (o : Option A) → (o ≡ none → X) → ((a : A) → o ≡ some a → X) → X
-by-option none f g = f refl
-by-option (some a) f g = g a refl
+pub by-option {ℓ} : {A : Type 0} {X : Type ℓ} (o : Option A) → (o ≡ None → X) → ((a : A) → o ≡ Some a → X) → X
+by-option None f g = f refl
+by-option (Some a) f g = g a refl
 
 pub true-not-false : {b : Bool} → b ≡ true → b ≡ false → ⊥
 true-not-false e f = let z : ◌≡◌ {A = ℕ} 0 1 = cc in omega arith

@@ -1,6 +1,5 @@
 -- The numbers below a bound: tests, lists and sums over them.
-use Rattle.std.specs.Prelude.{ℕ, zero, suc, ◌+◌, Bool, true, false, ◌&&◌, ◌||◌, List, [], ◌∷◌}
-use Rattle.std.proofs.Math.Option.{Option, none, some}
+use Rattle.std.specs.Prelude.{ℕ, zero, suc, ◌+◌, Bool, true, false, ◌&&◌, ◌||◌, List, [], ◌∷◌, Option, Some, None}
 use Rattle.basics.specs.Choice.{when◌then◌else◌}
 
 -- the test passes at every number below n
@@ -25,5 +24,5 @@ sum (suc n) f = f n + sum n f
 
 -- the first of the n numbers i, i + 1, .. at which the test fails
 unfoldable pub first_not : (ℕ → Bool) → ℕ → ℕ → Option ℕ
-first_not test i zero = none
-first_not test i (suc n) = when test i then first_not test (suc i) n else some i
+first_not test i zero = None
+first_not test i (suc n) = when test i then first_not test (suc i) n else Some i

@@ -9,16 +9,15 @@ use lib.Bits.{or_zero_l}
 use lib.Dec.{eqb, ltb}
 use lib.ListN.{length, get_or}
 use borrow.Author.Tests.{eqb-false, ne_eqb, ltb-true, lt-ltb}
+use Rattle.std.specs.Prelude.{Some, Ok}
 use Rattle.basics.specs.Choice.{when◌then◌else◌}
 use Rattle.basics.proofs.Choice.{true-not-false, if-false}
-use Rattle.words.specs.declared.Programmed.TheVariants.{Done}
 use Rattle.words.specs.Words.{part_at}
 use Rattle.words.specs.declared.Rule.TheVariants.{KeepBits}
 use Rattle.words.specs.Programming.{loses_bit, program_answer}
 use Rattle.words.proofs.Rules.{loses-none, or-keeps}
 use Rattle.words.proofs.Programming.{covered-done}
 use Rattle.life_cycle.specs.declared.Token.{Token}
-use Rattle.life_cycle.specs.declared.Entry.TheVariants.{Allowed}
 use Rattle.constants.specs.Constants.{const_a, const_b, const_c, const_d, valid_constants}
 use Rattle.life_cycle.specs.Words.{counter_word, counter_words, has_b, state_word, state_words}
 use Rattle.life_cycle.specs.Transitions.{table_entry}
@@ -41,7 +40,7 @@ coded-keeps marks low up m n i p z h = rw (if-false 0 (when marks n i then up i 
 
 -- words that cover those of a part are programmed there
 covering : (size : ℕ) (c ws vs : List ℕ) (at : ℕ) → length vs ≡ size → part_at c at size ≡ ws
-    → ((i : ℕ) → i < size → loses_bit (get_or ws i 0) (get_or vs i 0) ≡ false) → program_answer KeepBits c at vs ≡ Done
+    → ((i : ℕ) → i < size → loses_bit (get_or ws i 0) (get_or vs i 0) ≡ false) → program_answer KeepBits c at vs ≡ Ok tt
 covering size c ws vs at l e h = covered-done vs c at (λ i m. rw (l, e) (h i (rw l at m)))
 
 module _ (constants : List ℕ) (valid : valid_constants constants ≡ true) where
@@ -51,7 +50,7 @@ module _ (constants : List ℕ) (valid : valid_constants constants ≡ true) whe
       coded-keeps (λ n i. ltb i n) (const_c constants) (const_d constants) n (suc n) i (counter-pair constants valid i h) (λ z. omega arith)
       (λ z t. lt-ltb i (suc n) (omega (arith, ltb-true i n t)))
 
-  pub transition-keeps : (s t i : ℕ) {tok : Token} → table_entry s t ≡ Allowed tok → i < 20
+  pub transition-keeps : (s t i : ℕ) {tok : Token} → table_entry s t ≡ Some tok → i < 20
       → loses_bit (state_word constants s i) (state_word constants t i) ≡ false
   unfolding state_word
   transition-keeps s t i e h =
@@ -61,12 +60,12 @@ module _ (constants : List ℕ) (valid : valid_constants constants ≡ true) whe
   -- ---- as programming
 
   pub stroke-done : (c : List ℕ) (at n : ℕ) → part_at c at 24 ≡ counter_words constants n
-      → program_answer KeepBits c at (counter_words constants (suc n)) ≡ Done
+      → program_answer KeepBits c at (counter_words constants (suc n)) ≡ Ok tt
   stroke-done c at n e =
       covering 24 c _ _ at (counter-length constants (suc n)) e
       (λ i h. rw (counter-at constants n i h, counter-at constants (suc n) i h) (stroke-keeps n i h))
 
-  pub transition-done : (c : List ℕ) (at s t : ℕ) {tok : Token} → part_at c at 20 ≡ state_words constants s → table_entry s t ≡ Allowed tok
-      → program_answer KeepBits c at (state_words constants t) ≡ Done
+  pub transition-done : (c : List ℕ) (at s t : ℕ) {tok : Token} → part_at c at 20 ≡ state_words constants s → table_entry s t ≡ Some tok
+      → program_answer KeepBits c at (state_words constants t) ≡ Ok tt
   transition-done c at s t e a =
       covering 20 c _ _ at (state-length constants t) e (λ i h. rw (state-at constants s i h, state-at constants t i h) (transition-keeps s t i a h))

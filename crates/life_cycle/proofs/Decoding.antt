@@ -2,15 +2,14 @@
 use mathlib.Core.Path.{◌≡◌, refl, sym, ap, ap₂, ◌∙◌}
 use mathlib.Core.Bool.{true, false, not, ◌&&◌}
 use mathlib.Core.List.{List, [], ◌∷◌}
-use mathlib.Core.Option.{Option, none, some}
 use Prim.Native.Nat.{ℕ, zero, suc, ◌+◌, ◌-◌, ◌≤◌, ◌<◌}
 use native.Mathlib.Numerals.{add-one}
 use native.Mathlib.Omega.{arith}
 use lib.Dec.{eqb}
 use borrow.Author.Tests.{eqb-true, eqb-false, eq-eqb, ne_eqb, not-false}
+use Rattle.std.specs.Prelude.{Option, Some, None}
 use Rattle.basics.proofs.Choice.{by_cases, true-not-false, not-passed, and_left, and_right, and_both, if-true, if-false}
 use Rattle.words.proofs.Words.{Words}
-use Rattle.life_cycle.specs.declared.LifeCycle.TheVariants.{Valid, Invalid}
 use Rattle.constants.specs.Constants.{valid_constants}
 use Rattle.life_cycle.specs.Words.{counter_words, state_words, same_words, encoded_by, life_cycle_of, decoded}
 use Rattle.life_cycle.proofs.Distinct.{counter-distinct, state-distinct}
@@ -39,11 +38,11 @@ unequal-not-same xs ys h = not-passed (same_words xs ys) (λ e. h (same-equal xs
 -- ---- the search for a number, over any encoding
 
 module _ (encoding : ℕ → List ℕ) (ws : List ℕ) where
-  pub encoded-none : (i : ℕ) → encoded_by encoding ws i 0 ≡ none
+  pub encoded-none : (i : ℕ) → encoded_by encoding ws i 0 ≡ None
   unfolding encoded_by
   encoded-none i = refl
 
-  pub encoded-here : (i n : ℕ) → same_words ws (encoding i) ≡ true → encoded_by encoding ws i (suc n) ≡ some i
+  pub encoded-here : (i n : ℕ) → same_words ws (encoding i) ≡ true → encoded_by encoding ws i (suc n) ≡ Some i
   unfolding encoded_by
   encoded-here i n e = if-true _ _ e
 
@@ -52,33 +51,33 @@ module _ (encoding : ℕ → List ℕ) (ws : List ℕ) where
   encoded-next i n e = if-false _ _ e
 
   -- what is found: its encoding is the words
-  pub encoded-found : (i n m : ℕ) → encoded_by encoding ws i n ≡ some m → (ws ≡ encoding m) × (m < i + n)
-  encoded-found i zero m e = absurd (let q : none ≡ some m = sym (encoded-none i) ∙ e in let z : ◌≡◌ {A = ℕ} 0 1 = cc in omega arith)
+  pub encoded-found : (i n m : ℕ) → encoded_by encoding ws i n ≡ Some m → (ws ≡ encoding m) × (m < i + n)
+  encoded-found i zero m e = absurd (let q : None ≡ Some m = sym (encoded-none i) ∙ e in let z : ◌≡◌ {A = ℕ} 0 1 = cc in omega arith)
   encoded-found i (suc n) m e = by_cases (same_words ws (encoding i)) here (later (encoded-found (suc i) n m))
     where
       here : same_words ws (encoding i) ≡ true → (ws ≡ encoding m) × (m < i + suc n)
       here t =
-          let q : some i ≡ some m = sym (encoded-here i n t) ∙ e in
+          let q : Some i ≡ Some m = sym (encoded-here i n t) ∙ e in
           let p : i ≡ m = cc in
           (rw (← p) (same-equal ws (encoding i) t), omega arith)
 
-      later : (encoded_by encoding ws (suc i) n ≡ some m → (ws ≡ encoding m) × (m < suc i + n)) → same_words ws (encoding i) ≡ false
+      later : (encoded_by encoding ws (suc i) n ≡ Some m → (ws ≡ encoding m) × (m < suc i + n)) → same_words ws (encoding i) ≡ false
           → (ws ≡ encoding m) × (m < i + suc n)
       later rest t = let r = rest (sym (encoded-next i n t) ∙ e) in (r.0, omega arith)
 
   -- the words are found at m where they are the encoding of no number below it
   pub encoded-first : (i n m : ℕ) → i ≤ m → m < i + n → ws ≡ encoding m → ((j : ℕ) → j < m → ws ≡ encoding j → ⊥)
-      → encoded_by encoding ws i n ≡ some m
+      → encoded_by encoding ws i n ≡ Some m
   encoded-first i zero m a b e h = absurd (omega arith)
   encoded-first i (suc n) m a b e h = by_cases (eqb i m) here (later (encoded-first (suc i) n m))
     where
-      here : eqb i m ≡ true → encoded_by encoding ws i (suc n) ≡ some m
+      here : eqb i m ≡ true → encoded_by encoding ws i (suc n) ≡ Some m
       here t =
           let p : i ≡ m = eqb-true i m t in
-          encoded-here i n (equal-same ws (encoding i) (e ∙ ap encoding (sym p))) ∙ ap some p
+          encoded-here i n (equal-same ws (encoding i) (e ∙ ap encoding (sym p))) ∙ ap Some p
 
-      later : (suc i ≤ m → m < suc i + n → ws ≡ encoding m → ((j : ℕ) → j < m → ws ≡ encoding j → ⊥) → encoded_by encoding ws (suc i) n ≡ some m)
-          → eqb i m ≡ false → encoded_by encoding ws i (suc n) ≡ some m
+      later : (suc i ≤ m → m < suc i + n → ws ≡ encoding m → ((j : ℕ) → j < m → ws ≡ encoding j → ⊥) → encoded_by encoding ws (suc i) n ≡ Some m)
+          → eqb i m ≡ false → encoded_by encoding ws i (suc n) ≡ Some m
       later rest t =
           let l : suc i ≤ m = omega (arith, eqb-false i m t) in
           encoded-next i n (unequal-not-same ws (encoding i) (h i l)) ∙ rest l (omega arith) e h
@@ -92,7 +91,7 @@ module _ {encoding : ℕ → List ℕ} {ws : List ℕ} {n : ℕ} where
   pub searched-none : Searched encoding ws n 0
   searched-none = record { within = omega arith; left = let q : n - 0 ≡ n = omega arith in rw q }
 
-  pub searched-here : {i : ℕ} → Searched encoding ws n i → i < n → same_words ws (encoding i) ≡ true → encoded_by encoding ws 0 n ≡ some i
+  pub searched-here : {i : ℕ} → Searched encoding ws n i → i < n → same_words ws (encoding i) ≡ true → encoded_by encoding ws 0 n ≡ Some i
   searched-here {i} s h e =
       let q : n - i ≡ suc (n - suc i) = omega arith in
       s.left ∙ rw q (encoded-here encoding ws i (n - suc i) e)
@@ -102,7 +101,7 @@ module _ {encoding : ℕ → List ℕ} {ws : List ℕ} {n : ℕ} where
       let q : n - i ≡ suc (n - suc i) = omega arith in
       record { within = omega arith; left = s.left ∙ rw (q, add-one i) (encoded-next encoding ws i (n - suc i) e) }
 
-  pub searched-end : {i : ℕ} → Searched encoding ws n i → n ≤ i → encoded_by encoding ws 0 n ≡ none
+  pub searched-end : {i : ℕ} → Searched encoding ws n i → n ≤ i → encoded_by encoding ws 0 n ≡ None
   searched-end {i} s h = let q : n - i ≡ 0 = omega arith in s.left ∙ rw q (encoded-none encoding ws i)
 
 -- ---- the life cycle
@@ -114,41 +113,41 @@ blank-raw n s t z = eqb-true s 0 (not-false _ (rw (eq-eqb n 0 z) at t))
 blank-raw-test : (n s : ℕ) → (n ≡ 0 → s ≡ 0) → (eqb n 0 && not (eqb s 0)) ≡ false
 blank-raw-test n s h = by_cases (eqb n 0) (λ t. rw (t, eq-eqb s 0 (h (eqb-true n 0 t)))) (λ t. rw t)
 
-pub blank-invalid : (s n : ℕ) → (eqb n 0 && not (eqb s 0)) ≡ true → life_cycle_of (some s) (some n) ≡ Invalid
+pub blank-invalid : (s n : ℕ) → (eqb n 0 && not (eqb s 0)) ≡ true → life_cycle_of (Some s) (Some n) ≡ None
 unfolding life_cycle_of
 blank-invalid s n t = if-true _ _ t
 
-pub both-valid : (s n : ℕ) → (eqb n 0 && not (eqb s 0)) ≡ false → life_cycle_of (some s) (some n) ≡ Valid s n
+pub both-valid : (s n : ℕ) → (eqb n 0 && not (eqb s 0)) ≡ false → life_cycle_of (Some s) (Some n) ≡ Some (record { state = s; count = n })
 unfolding life_cycle_of
 both-valid s n t = if-false _ _ t
 
-pub no-state : (count : Option ℕ) → life_cycle_of none count ≡ Invalid
+pub no-state : (count : Option ℕ) → life_cycle_of None count ≡ None
 unfolding life_cycle_of
 no-state count = refl
 
-pub no-count : (state : Option ℕ) → life_cycle_of state none ≡ Invalid
+pub no-count : (state : Option ℕ) → life_cycle_of state None ≡ None
 unfolding life_cycle_of
-no-count none = refl
-no-count (some s) = refl
+no-count None = refl
+no-count (Some s) = refl
 
-valid-parts : (state count : Option ℕ) (s n : ℕ) → life_cycle_of state count ≡ Valid s n → (state ≡ some s) × (count ≡ some n) × (n ≡ 0 → s ≡ 0)
+valid-parts : (state count : Option ℕ) (s n : ℕ) → life_cycle_of state count ≡ Some (record { state = s; count = n }) → (state ≡ Some s) × (count ≡ Some n) × (n ≡ 0 → s ≡ 0)
 unfolding life_cycle_of
-valid-parts none count s n e = absurd (let z : ◌≡◌ {A = ℕ} 0 1 = cc in omega arith)
-valid-parts (some s') none s n e = absurd (let z : ◌≡◌ {A = ℕ} 0 1 = cc in omega arith)
-valid-parts (some s') (some n') s n e = by_cases (eqb n' 0 && not (eqb s' 0)) spent found
+valid-parts None count s n e = absurd (let z : ◌≡◌ {A = ℕ} 0 1 = cc in omega arith)
+valid-parts (Some s') None s n e = absurd (let z : ◌≡◌ {A = ℕ} 0 1 = cc in omega arith)
+valid-parts (Some s') (Some n') s n e = by_cases (eqb n' 0 && not (eqb s' 0)) spent found
   where
-    spent : (eqb n' 0 && not (eqb s' 0)) ≡ true → (some s' ≡ some s) × (some n' ≡ some n) × (n ≡ 0 → s ≡ 0)
-    spent t = absurd (let q : Invalid ≡ Valid s n = sym (if-true _ _ t) ∙ e in let z : ◌≡◌ {A = ℕ} 0 1 = cc in omega arith)
+    spent : (eqb n' 0 && not (eqb s' 0)) ≡ true → (Some s' ≡ Some s) × (Some n' ≡ Some n) × (n ≡ 0 → s ≡ 0)
+    spent t = absurd (let q : None ≡ Some (record { state = s; count = n }) = sym (if-true _ _ t) ∙ e in let z : ◌≡◌ {A = ℕ} 0 1 = cc in omega arith)
 
-    found : (eqb n' 0 && not (eqb s' 0)) ≡ false → (some s' ≡ some s) × (some n' ≡ some n) × (n ≡ 0 → s ≡ 0)
+    found : (eqb n' 0 && not (eqb s' 0)) ≡ false → (Some s' ≡ Some s) × (Some n' ≡ Some n) × (n ≡ 0 → s ≡ 0)
     found t =
-        let q : Valid s' n' ≡ Valid s n = sym (if-false _ _ t) ∙ e in
+        let q : Some (record { state = s'; count = n' }) ≡ Some (record { state = s; count = n }) = sym (if-false _ _ t) ∙ e in
         let a : s' ≡ s = cc in
         let b : n' ≡ n = cc in
-        (ap some a, ap some b, rw (a, b) at (blank-raw n' s' t))
+        (ap Some a, ap Some b, rw (a, b) at (blank-raw n' s' t))
 
 -- what a valid decoding says
-pub decoded-says : (constants counter state : List ℕ) (s n : ℕ) → decoded constants counter state ≡ Valid s n
+pub decoded-says : (constants counter state : List ℕ) (s n : ℕ) → decoded constants counter state ≡ Some (record { state = s; count = n })
     → (counter ≡ counter_words constants n) × (state ≡ state_words constants s) × (s ≤ 20) × (n ≤ 24) × (n ≡ 0 → s ≡ 0)
 unfolding decoded
 decoded-says constants counter state s n e =
@@ -159,26 +158,26 @@ decoded-says constants counter state s n e =
 
 -- decoding undoes encoding
 module _ (constants : List ℕ) (words : Words constants) (valid : valid_constants constants ≡ true) where
-  pub count-decoded : (n : ℕ) → n ≤ 24 → encoded_by (counter_words constants) (counter_words constants n) 0 25 ≡ some n
+  pub count-decoded : (n : ℕ) → n ≤ 24 → encoded_by (counter_words constants) (counter_words constants n) 0 25 ≡ Some n
   count-decoded n h =
       encoded-first (counter_words constants) _ 0 25 n (omega arith) (omega arith) refl
       (λ j l e. omega (arith, counter-distinct constants words valid n j h (omega arith) e))
 
-  pub state-decoded : (s : ℕ) → s ≤ 20 → encoded_by (state_words constants) (state_words constants s) 0 21 ≡ some s
+  pub state-decoded : (s : ℕ) → s ≤ 20 → encoded_by (state_words constants) (state_words constants s) 0 21 ≡ Some s
   state-decoded s h =
       encoded-first (state_words constants) _ 0 21 s (omega arith) (omega arith) refl
       (λ j l e. omega (arith, state-distinct constants words valid s j h (omega arith) e))
 
-  encoded-decoded : (s n : ℕ) → s ≤ 20 → n ≤ 24 → decoded constants (counter_words constants n) (state_words constants s) ≡ life_cycle_of (some s) (some n)
+  encoded-decoded : (s n : ℕ) → s ≤ 20 → n ≤ 24 → decoded constants (counter_words constants n) (state_words constants s) ≡ life_cycle_of (Some s) (Some n)
   unfolding decoded
   encoded-decoded s n a b = ap₂ life_cycle_of (state-decoded s a) (count-decoded n b)
 
   pub decoded-valid : (s n : ℕ) → s ≤ 20 → n ≤ 24 → (n ≡ 0 → s ≡ 0)
-      → decoded constants (counter_words constants n) (state_words constants s) ≡ Valid s n
+      → decoded constants (counter_words constants n) (state_words constants s) ≡ Some (record { state = s; count = n })
   unfolding life_cycle_of
   decoded-valid s n a b h = encoded-decoded s n a b ∙ if-false _ _ (blank-raw-test n s h)
 
   -- no stroke is spent, and the state isn't RAW
-  pub decoded-invalid : (s : ℕ) → s ≤ 20 → (s ≡ 0 → ⊥) → decoded constants (counter_words constants 0) (state_words constants s) ≡ Invalid
+  pub decoded-invalid : (s : ℕ) → s ≤ 20 → (s ≡ 0 → ⊥) → decoded constants (counter_words constants 0) (state_words constants s) ≡ None
   unfolding life_cycle_of
   decoded-invalid s a h = encoded-decoded s 0 a (omega arith) ∙ if-true _ _ (ap not (ne_eqb s 0 h))

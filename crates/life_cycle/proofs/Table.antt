@@ -5,21 +5,20 @@ use Prim.Native.Nat.{ℕ, ◌≤◌, ◌<◌}
 use native.Mathlib.Omega.{arith}
 use lib.Dec.{T, eqb, leb, ltb}
 use borrow.Author.Tests.{eqb-true, leb-true, ltb-true, ne_eqb}
+use Rattle.std.specs.Prelude.{Option, Some, None}
 use Rattle.basics.specs.Choice.{when◌then◌else◌}
 use Rattle.basics.specs.Range.{all_below}
 use Rattle.basics.proofs.Choice.{to-T, by_cases, and_left, and_right, and-three, if-false}
 use Rattle.basics.proofs.Range.{all-at}
 use Rattle.life_cycle.specs.declared.Token.{Token}
-use Rattle.life_cycle.specs.declared.Entry.{Entry}
-use Rattle.life_cycle.specs.declared.Entry.TheVariants.{Allowed, Forbidden}
 use Rattle.life_cycle.specs.Words.{has_b}
 use Rattle.life_cycle.specs.Transitions.{is_test, is_unlocked, is_locked, test_index, table_entry}
 
 -- ---- the computed test
 
-allows : Entry → Bool
-allows (Allowed tok) = true
-allows Forbidden = false
+allows : Option Token → Bool
+allows (Some tok) = true
+allows None = false
 
 -- the words marked stay marked; RAW has no mark
 grows : ℕ → ℕ → Bool
@@ -77,20 +76,20 @@ module _ (s t : ℕ) where
   scrap : (ltb s 20 && eqb t 20) ≡ true → Ends s t
   scrap q = omega (arith, ltb-true s 20 (and_left (ltb s 20) _ q), eqb-true t 20 (and_right (ltb s 20) _ q))
 
-  none : {tok : Token} → Forbidden ≡ Allowed tok → Ends s t
-  none e = absurd (let z : ◌≡◌ {A = ℕ} 0 1 = cc in omega arith)
+  none : {tok : Token} → None ≡ Some tok → Ends s t
+  none e = cc
 
   -- the row applies, or one below it does
-  row : {tok : Token} {below : Entry} (b : Bool) (need : Token) → (b ≡ true → Ends s t) → (below ≡ Allowed tok → Ends s t)
-      → (when b then Allowed need else below) ≡ Allowed tok → Ends s t
+  row : {tok : Token} {below : Option Token} (b : Bool) (need : Token) → (b ≡ true → Ends s t) → (below ≡ Some tok → Ends s t)
+      → (when b then Some need else below) ≡ Some tok → Ends s t
   row b need here rest e = by_cases b here (λ q. rest (sym (if-false _ _ q) ∙ e))
 
-  pub allowed-ends : {tok : Token} → table_entry s t ≡ Allowed tok → Ends s t
+  pub allowed-ends : {tok : Token} → table_entry s t ≡ Some tok → Ends s t
   unfolding table_entry
   allowed-ends = row _ _ raw (row _ _ lock (row _ _ unlock (row _ _ leave (row _ _ test-rma (row _ _ rma (row _ _ scrap none))))))
 
 -- what the computed test says
-pub marks-grow : (s t i : ℕ) {tok : Token} → table_entry s t ≡ Allowed tok → i < 20 → (s ≡ 0 → ⊥) → has_b s i ≡ true → has_b t i ≡ true
+pub marks-grow : (s t i : ℕ) {tok : Token} → table_entry s t ≡ Some tok → i < 20 → (s ≡ 0 → ⊥) → has_b s i ≡ true → has_b t i ≡ true
 unfolding unmarks-none grows allows
 marks-grow s t i e h z m =
     let ends = allowed-ends s t e in

@@ -1,10 +1,8 @@
 -- Life cycle words: how a stroke count and a state stand in the 24 counter words and the 20 state words, and how they are decoded.
-use Rattle.std.specs.Prelude.{ℕ, zero, suc, Bool, true, false, not, ◌&&◌, ◌||◌, List, [], ◌∷◌, eqb, leb, ltb}
-use Rattle.std.proofs.Math.Option.{Option, none, some}
+use Rattle.std.specs.Prelude.{ℕ, zero, suc, Bool, true, false, not, ◌&&◌, ◌||◌, List, [], ◌∷◌, eqb, leb, ltb, Option, Some, None}
 use Rattle.basics.specs.Choice.{when◌then◌else◌}
 use Rattle.basics.specs.Range.{listed}
 use Rattle.life_cycle.specs.declared.LifeCycle.{LifeCycle}
-use Rattle.life_cycle.specs.declared.LifeCycle.TheVariants.{Valid, Invalid}
 use Rattle.constants.specs.Constants.{const_a, const_b, const_c, const_d}
 
 -- "Count 0: all 24 counter words zero. Count n: words below n are D, the rest C."
@@ -41,15 +39,15 @@ same_words (x ∷ xs) (y ∷ ys) = eqb x y && same_words xs ys
 
 -- the first of n numbers from i on whose encoding the words are
 unfoldable pub encoded_by : (ℕ → List ℕ) → List ℕ → ℕ → ℕ → Option ℕ
-encoded_by encoding ws i zero = none
-encoded_by encoding ws i (suc n) = when same_words ws (encoding i) then some i else encoded_by encoding ws (suc i) n
+encoded_by encoding ws i zero = None
+encoded_by encoding ws i (suc n) = when same_words ws (encoding i) then Some i else encoded_by encoding ws (suc i) n
 
 -- "Anything else is invalid, and so is count 0 with a state other than RAW."
-unfoldable pub life_cycle_of : Option ℕ → Option ℕ → LifeCycle
-life_cycle_of none count = Invalid
-life_cycle_of (some state) none = Invalid
-life_cycle_of (some state) (some count) = when eqb count 0 && not (eqb state 0) then Invalid else Valid state count
+unfoldable pub life_cycle_of : Option ℕ → Option ℕ → Option LifeCycle
+life_cycle_of None count = None
+life_cycle_of (Some state) None = None
+life_cycle_of (Some state) (Some count) = when eqb count 0 && not (eqb state 0) then None else Some (record { state = state; count = count })
 
 -- what 24 counter words and 20 state words stand for
-unfoldable pub decoded : List ℕ → List ℕ → List ℕ → LifeCycle
+unfoldable pub decoded : List ℕ → List ℕ → List ℕ → Option LifeCycle
 decoded constants counter state = life_cycle_of (encoded_by (state_words constants) state 0 21) (encoded_by (counter_words constants) counter 0 25)

@@ -1,10 +1,14 @@
 // The life cycle: counter and state words, their decoding, and the transition table.
 #![tactic(auto)]
 
-ghost use Rattle.std.proofs.Math.Option.{some};
-ghost use Rattle.std.specs.Prelude.{◌≡◌, ◌+◌, ◌<◌};
-ghost use Rattle.life_cycle.specs.Words.{counter_word, counter_words, has_b, state_word, state_words, same_words, encoded_by, life_cycle_of, decoded};
+ghost use Rattle.std.specs.Prelude.{◌≡◌, ◌<◌};
+ghost use Rattle.life_cycle.specs.Words.{counter_word, counter_words, has_b, state_word, state_words, encoded_by, decoded};
 ghost use Rattle.life_cycle.specs.Transitions.{is_test, is_unlocked, is_locked, test_index, table_entry};
+
+use std::array;
+
+use constants::{FIRST_A, FIRST_B, FIRST_C, FIRST_D};
+use words::word_at;
 
 // The states by their numbers. TEST_UNLOCKEDn is 2n + 1, TEST_LOCKEDn is 2n + 2.
 pub const RAW: u8 = 0;
@@ -28,9 +32,9 @@ pub const STROKES: u8 = 24;
 
 // What the life cycle words stand for: a state number and a stroke count.
 #[derive(Clone, Copy)]
-pub enum LifeCycle {
-    Valid(u8, u8),
-    Invalid,
+pub struct LifeCycle {
+    pub state: u8,
+    pub count: u8,
 }
 
 // The token that a transition needs.
@@ -43,26 +47,17 @@ pub enum Token {
     Rma,
 }
 
-// An entry of the transition table.
-#[derive(Clone, Copy)]
-pub enum Entry {
-    Allowed(Token),
-    Forbidden,
-}
-
 // Word i of a stroke count.
 fn counter_word(constants: &[u16], count: u8, i: usize) -> u16
     requires { i < 24 }
     ensures { result ≡ counter_word constants.now count i }
 {
     if count == 0 {
-        return 0;
-    }
-    let n = count as usize;
-    if i < n {
-        words::word_at(constants, constants::FIRST_D + i)
+        0
+    } else if i < usize::from(count) {
+        word_at(constants, FIRST_D + i)
     } else {
-        words::word_at(constants, constants::FIRST_C + i)
+        word_at(constants, FIRST_C + i)
     }
 }
 
@@ -70,13 +65,7 @@ fn counter_word(constants: &[u16], count: u8, i: usize) -> u16
 pub fn counter_words(constants: &[u16], count: u8) -> [u16; 24]
     ensures { result ≡ counter_words constants.now count }
 {
-    let mut words = [0u16; 24];
-    let mut i = 0;
-    while i < 24 {
-        words[i] = counter_word(constants, count, i);
-        i += 1;
-    }
-    words
+    array::from_fn(|i| counter_word(constants, count, i))
 }
 
 // The state has B in word i.
@@ -84,7 +73,7 @@ fn has_b(state: u8, i: usize) -> bool
     ensures { result ≡ has_b state i }
 {
     match state {
-        RAW..=TEST_UNLOCKED7 => i < state as usize,
+        RAW..=TEST_UNLOCKED7 => i < usize::from(state),
         DEV => i <= 15,
         PROD => (i <= 14) | (i == 16),
         PROD_END => (i <= 14) | (i == 17),
@@ -99,13 +88,11 @@ fn state_word(constants: &[u16], state: u8, i: usize) -> u16
     ensures { result ≡ state_word constants.now state i }
 {
     if state == RAW {
-        return 0;
-    }
-    let upper = has_b(state, i);
-    if upper {
-        words::word_at(constants, constants::FIRST_B + i)
+        0
+    } else if has_b(state, i) {
+        word_at(constants, FIRST_B + i)
     } else {
-        words::word_at(constants, constants::FIRST_A + i)
+        word_at(constants, FIRST_A + i)
     }
 }
 
@@ -113,64 +100,35 @@ fn state_word(constants: &[u16], state: u8, i: usize) -> u16
 pub fn state_words(constants: &[u16], state: u8) -> [u16; 20]
     ensures { result ≡ state_words constants.now state }
 {
-    let mut words = [0u16; 20];
-    let mut i = 0;
-    while i < 20 {
-        words[i] = state_word(constants, state, i);
-        i += 1;
-    }
-    words
+    array::from_fn(|i| state_word(constants, state, i))
 }
 
-fn same_words(a: &[u16], b: &[u16]) -> bool
-    ensures { result ≡ same_words a.now b.now }
+// The stroke count whose counter words these are.
+fn count_of(constants: &[u16], counter: &[u16]) -> Option<u8>
+    ensures { result ≡ encoded_by (counter_words constants.now) counter.now 0 25 }
 {
-    if a.len() != b.len() {
-        return false;
-    }
-    let mut i = 0;
-    while i < a.len() {
-        let x = a[i];
-        let y = b[i];
-        if x != y {
-            return false;
-        }
-        i += 1;
-    }
-    true
+    (0..=STROKES).find(|count| counter == counter_words(constants, *count).as_slice())
 }
 
-// The life cycle of a known stroke count with the state words.
-fn decode_state(constants: &[u16], state: &[u16], count: u8) -> LifeCycle
-    ensures { result ≡ life_cycle_of (encoded_by (state_words constants.now) state.now 0 21) (some count) }
+// The state whose state words these are.
+fn state_of(constants: &[u16], state: &[u16]) -> Option<u8>
+    ensures { result ≡ encoded_by (state_words constants.now) state.now 0 21 }
 {
-    let mut s = RAW;
-    while s <= SCRAP {
-        let expected = state_words(constants, s);
-        if same_words(state, &expected[..]) {
-            if (count == 0) & (s != RAW) {
-                return LifeCycle::Invalid;
-            }
-            return LifeCycle::Valid(s, count);
-        }
-        s += 1;
-    }
-    LifeCycle::Invalid
+    (RAW..=SCRAP).find(|number| state == state_words(constants, *number).as_slice())
 }
 
-// What counter words and state words stand for. Words that are no encoding, and any other number of words, are invalid.
-pub fn decode(constants: &[u16], counter: &[u16], state: &[u16]) -> LifeCycle
+// What counter words and state words stand for. Words that are no encoding, and any other number of words, stand for nothing; nor does count 0 with
+// a state other than RAW.
+pub fn decode(constants: &[u16], counter: &[u16], state: &[u16]) -> Option<LifeCycle>
     ensures { result ≡ decoded constants.now counter.now state.now }
 {
-    let mut n: u8 = 0;
-    while n <= STROKES {
-        let expected = counter_words(constants, n);
-        if same_words(counter, &expected[..]) {
-            return decode_state(constants, state, n);
-        }
-        n += 1;
+    let count = count_of(constants, counter)?;
+    let state = state_of(constants, state)?;
+    if (count == 0) & (state != RAW) {
+        None
+    } else {
+        Some(LifeCycle { state, count })
     }
-    LifeCycle::Invalid
 }
 
 fn is_test(state: u8) -> bool
@@ -195,38 +153,30 @@ fn is_locked(state: u8) -> bool
 fn test_index(state: u8) -> u8
     ensures { result ≡ test_index state }
 {
-    if state == RAW {
-        return 0;
-    }
-    (state - 1) / 2
+    state.saturating_sub(1) / 2
 }
 
-// The entry of the transition table, row by row.
-pub fn table_entry(from: u8, to: u8) -> Entry
+// The token that a transition of the table needs, row by row; nothing for a transition that is not in the table.
+pub fn table_entry(from: u8, to: u8) -> Option<Token>
     ensures { result ≡ table_entry from to }
 {
     let n = test_index(from);
     let m = test_index(to);
     if (from == RAW) & (to == TEST_UNLOCKED0) {
-        return Entry::Allowed(Token::RawUnlock);
+        Some(Token::RawUnlock)
+    } else if is_unlocked(from) & is_locked(to) & (n <= m) {
+        Some(Token::Nothing)
+    } else if is_locked(from) & is_unlocked(to) & (n < m) {
+        Some(Token::TestUnlock)
+    } else if is_test(from) & (DEV <= to) & (to <= PROD_END) {
+        Some(Token::TestExit)
+    } else if is_unlocked(from) & (to == RMA) {
+        Some(Token::Nothing)
+    } else if ((from == DEV) | (from == PROD)) & (to == RMA) {
+        Some(Token::Rma)
+    } else if (from < SCRAP) & (to == SCRAP) {
+        Some(Token::Nothing)
+    } else {
+        None
     }
-    if is_unlocked(from) & is_locked(to) & (n <= m) {
-        return Entry::Allowed(Token::Nothing);
-    }
-    if is_locked(from) & is_unlocked(to) & (n < m) {
-        return Entry::Allowed(Token::TestUnlock);
-    }
-    if is_test(from) & (DEV <= to) & (to <= PROD_END) {
-        return Entry::Allowed(Token::TestExit);
-    }
-    if is_unlocked(from) & (to == RMA) {
-        return Entry::Allowed(Token::Nothing);
-    }
-    if ((from == DEV) | (from == PROD)) & (to == RMA) {
-        return Entry::Allowed(Token::Rma);
-    }
-    if (from < SCRAP) & (to == SCRAP) {
-        return Entry::Allowed(Token::Nothing);
-    }
-    Entry::Forbidden
 }

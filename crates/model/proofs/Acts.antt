@@ -1,4 +1,5 @@
 -- Whatever holds of every act, with no case on commands. The idea: an act is a small tree, so each law is an induction on it.
+use Rattle.std.specs.Prelude.{Ok, Err, Result, ⊤}
 use mathlib.Core.Path.{◌≡◌, refl, ap, ◌∙◌}
 use mathlib.Core.Bool.{Bool, false}
 use mathlib.Core.List.{List}
@@ -8,24 +9,21 @@ use lib.ListN.{length, get_or}
 use borrow.Author.Tests.{eqb-false}
 use Rattle.basics.proofs.Choice.{if-both}
 use Rattle.words.specs.declared.Rule.{Rule}
-use Rattle.words.specs.declared.Programmed.{Programmed}
 use Rattle.words.specs.Programming.{program_answer, program_cells, Kept}
 use Rattle.words.proofs.Programming.{kept_refl, kept_trans, program-kept, program-length, program-elsewhere}
-use Rattle.model.specs.declared.Answer.{Answer}
-use Rattle.model.specs.declared.Answer.TheVariants.{Done, NotBlank}
-use Rattle.model.specs.Answers.{code_of}
+use Rattle.model.specs.declared.Failure.TheVariants.{NotBlank}
+use Rattle.model.specs.Answers.{Answer, code_of}
 use Rattle.model.specs.Lent.{Lent, with_cells}
 use Rattle.model.specs.Acts.{Effect, Act, say, program, compare, Performed, after_program, with_comparison, perform}
-use Rattle.words.specs.declared.Programmed.TheVariants as programmed
 
 -- what holds of a programming that is done and of one that is refused
-pub after_both {ℓ} : (Q : Performed → Type ℓ) (r : Programmed) (next : Performed) (refused : ℕ → Performed)
-    → (r ≡ programmed.Done → Q next) → ((cell : ℕ) → r ≡ programmed.Refused cell → Q (refused cell)) → Q (after_program r next refused)
+pub after_both {ℓ} : (Q : Performed → Type ℓ) (r : Result ⊤ ℕ) (next : Performed) (refused : ℕ → Performed)
+    → (r ≡ Ok tt → Q next) → ((cell : ℕ) → r ≡ Err cell → Q (refused cell)) → Q (after_program r next refused)
 unfolding after_program
-after_both Q programmed.Done next refused f g = f refl
-after_both Q (programmed.Refused cell) next refused f g = g cell refl
+after_both Q (Ok done) next refused f g = f refl
+after_both Q (Err cell) next refused f g = g cell refl
 
-pub after-done : {r : Programmed} (next : Performed) (refused : ℕ → Performed) → r ≡ programmed.Done → after_program r next refused ≡ next
+pub after-done : {r : Result ⊤ ℕ} (next : Performed) (refused : ℕ → Performed) → r ≡ Ok tt → after_program r next refused ≡ next
 unfolding after_program
 after-done next refused e = rw e
 
@@ -81,7 +79,7 @@ perform-frame (compares {test = test} same other) l j h =
 
 pub data Gives (T : Answer → Effect → Type 0) : Act → Type 0 where
   says : {answer : Answer} {effect : Effect} → T answer effect → Gives T (say answer effect)
-  programs : {rule : Rule} {at : ℕ} {words : List ℕ} {effect : Effect} {next : Act} → ((cell : ℕ) → T (NotBlank cell) effect) → Gives T next
+  programs : {rule : Rule} {at : ℕ} {words : List ℕ} {effect : Effect} {next : Act} → ((cell : ℕ) → T (Err (NotBlank cell)) effect) → Gives T next
       → Gives T (program rule at words effect next)
   compares : {test : Lent → Bool} {same other : Act} → Gives T same → Gives T other → Gives T (compare test same other)
 
@@ -95,5 +93,5 @@ perform-gives {T} (Gives.compares {test = test} same other) l =
     if-both (λ (r : Performed). T r.answer r.effect) _ _ _ (λ e. perform-gives same l) (λ e. perform-gives other l)
 
 -- a refusal is not an answer of 0
-pub not_done : {answer : Answer} {value : ℕ} → eqb (code_of answer) 0x00 ≡ false → answer ≡ Done value → ⊥
+pub not_done : {answer : Answer} {value : ℕ} → eqb (code_of answer) 0x00 ≡ false → answer ≡ Ok value → ⊥
 not_done t e = eqb-false _ _ t (ap code_of e)

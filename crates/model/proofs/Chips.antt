@@ -1,5 +1,6 @@
 -- Two chips that differ only in hidden words answer alike. The idea: both decide the same act, since what an act depends on shows; a performed
 -- act changes no hidden word; and hidden partitions stay locked.
+use Rattle.std.specs.Prelude.{Ok, Result, Err, ⊤}
 use mathlib.Core.Path.{◌≡◌, refl, sym, ap, ap₂, subst, ◌∙◌}
 use mathlib.Core.Bool.{Bool, true, false, ◌&&◌}
 use mathlib.Core.List.{List, [], ◌∷◌}
@@ -11,7 +12,6 @@ use Rattle.basics.specs.Choice.{when◌then◌else◌}
 use Rattle.basics.specs.Range.{listed}
 use Rattle.basics.proofs.Choice.{by_cases, true-not-false, not-passed, if-true, if-false, if-same}
 use Rattle.basics.proofs.Range.{length-listed, listed_at, is-listed}
-use Rattle.words.specs.declared.Programmed.{Programmed}
 use Rattle.words.specs.Words.{number_of}
 use Rattle.words.specs.Programming.{program_answer, program_cells}
 use Rattle.words.proofs.Parts.{part_same}
@@ -22,11 +22,10 @@ use Rattle.partitions.proofs.KindRights.{scrambled-direct, front-hardware, front
 use Rattle.partitions.proofs.Map.{inside, partition-fit, partition-word, direct-known}
 use Rattle.partitions.proofs.Granules.{granule-within, word-inside, word_number, digest-word}
 use Rattle.partitions.specs.Map.{Map, rights_of, number_at, partition, partition_at, limit, in_digest, first_word, word_count, number_of_kind}
-use Rattle.model.specs.declared.Answer.{Answer}
-use Rattle.model.specs.declared.Answer.TheVariants.{Done}
 use Rattle.model.specs.declared.Session.{Session}
 use Rattle.model.specs.declared.Command.{Command}
 use Rattle.model.specs.declared.Command.TheVariants.{Read, Write, FrontRead, Digest, ReadLock, Transition, PowerUp}
+use Rattle.model.specs.Answers.{Answer}
 use Rattle.model.specs.Session.{is_ready, sensed_at, sensed_locked, read_locked}
 use Rattle.constants.specs.Constants.{digest_start, digest_final}
 use Rattle.model.specs.Lent.{Machine, Primitives, Lent, with_cells, with_copy}
@@ -42,7 +41,6 @@ use Rattle.model.proofs.Frame.{Programmable, unlocked, life_cycle, life-words, l
 use Rattle.model.proofs.Steps.{obey-both, step-obeys, step-up, cells-length, up-inputs, act-inputs}
 use Rattle.model.proofs.Locks.{Locked, up-locked, act-locked}
 use Rattle.model.proofs.Guards.{not-locked, ReadGuards, allowed-below, read-guards, allowed-there, front-open, digest-guards}
-use Rattle.words.specs.declared.Programmed.TheVariants as programmed
 use Rattle.partitions.specs.declared.Kind.TheVariants as kind
 
 -- ---- one act on two chips
@@ -55,11 +53,11 @@ pub record SameOutcome (P : ℕ → Type 0) (r q : Performed) : Type 0 where
 abbrev SameButHidden : (ℕ → Type 0) → Performed → Performed → Type 0
 SameButHidden P r q = Agree r.compared q.compared → SameOutcome P r q
 
-after-same-but-hidden : (Q : Performed → Performed → Type 0) (r : Programmed) (x x' : Performed) (f f' : ℕ → Performed)
+after-same-but-hidden : (Q : Performed → Performed → Type 0) (r : Result ⊤ ℕ) (x x' : Performed) (f f' : ℕ → Performed)
     → Q x x' → ((cell : ℕ) → Q (f cell) (f' cell)) → Q (after_program r x f) (after_program r x' f')
 unfolding after_program
-after-same-but-hidden Q programmed.Done x x' f f' h g = h
-after-same-but-hidden Q (programmed.Refused cell) x x' f f' h g = g cell
+after-same-but-hidden Q (Ok done) x x' f f' h g = h
+after-same-but-hidden Q (Err cell) x x' f f' h g = g cell
 
 if-same-but-hidden : (Q : Performed → Performed → Type 0) {b b' : Bool} (x y x' y' : Performed) → b ≡ b' → Q x x' → Q y y'
     → Q (when b then x else y) (when b' then x' else y')
@@ -174,14 +172,14 @@ module _ (prims : Primitives) (map : Map) (F : fit map ≡ true) (H : ℕ → Ty
     unfolding command_act write_act read_act front_read_act digest_act read_lock_act transition_act authorized_act move_act
     command-same (Write a value) r = refl
     command-same (Read a) r = if-same (λ e. refl) λ e.
-        ap (λ (x : ℕ). say (Done x) no_effect) (value_same a (allowed-below map a _ e) r (read-guards (partition_at map a) a (allowed-there map a _ e)))
+        ap (λ (x : ℕ). say (Ok x) no_effect) (value_same a (allowed-below map a _ e) r (read-guards (partition_at map a) a (allowed-there map a _ e)))
     command-same (FrontRead a) r = if-same (λ e. refl) λ e.
-        ap (λ (x : ℕ). say (Done x) no_effect) (front_same a (allowed-below map a _ e) (front-open (partition_at map a) a (allowed-there map a _ e)))
+        ap (λ (x : ℕ). say (Ok x) no_effect) (front_same a (allowed-below map a _ e) (front-open (partition_at map a) a (allowed-there map a _ e)))
     command-same (Digest a) r = if-same (λ e. refl) λ e.
         (let q = digest-guards (partition_at map a) a (allowed-there map a _ e) in
         rw (computed_same a (allowed-below map a _ e) (λ v. shut (number_at map a) v r (not-locked s (number_at map a) q.unlocked))))
     command-same (ReadLock number) r = refl
-    command-same (Transition target high low) r = refl
+    command-same (Transition target given) r = refl
     command-same PowerUp r = refl
 
     pub decided-same : (x : Command) → ready_act prims map (chip l s) x ≡ ready_act prims map (chip (second l d k') s) x
@@ -266,13 +264,13 @@ module _ (prims : Primitives) (map : Map) (F : fit map ≡ true) (H : ℕ → Ty
   powered-views : (w : PowerUpEnd) (l : Lent) (d k' : List ℕ) → Same (Shown map H) l.cells d
       → Same (FrontWord map H) (powered_copy prims map w l) (powered_copy prims map w (second l d k'))
   unfolding powered_copy
-  powered-views (fails reason answer) l d k' h = record { at = λ j f. refl }
+  powered-views (fails reason failure) l d k' h = record { at = λ j f. refl }
   powered-views (succeeds state count) l d k' h = copies-alike l.constants l.cells d h
 
   powered-records : (w : PowerUpEnd) (l : Lent) (d k' : List ℕ) → Same (Shown map H) l.cells d
       → powered_session map w l ≡ powered_session map w (second l d k')
   unfolding powered_session
-  powered-records (fails reason answer) l d k' h = refl
+  powered-records (fails reason failure) l d k' h = refl
   powered-records (succeeds state count) l d k' h =
       rw (digests-same prims map l.cells d (λ n e. stored-alike l.cells d h n (direct-known map n e) e))
 

@@ -2,21 +2,21 @@
 use mathlib.Core.Path.{◌≡◌, refl, sym, ◌∙◌}
 use Prim.Native.Nat.{ℕ}
 use native.Mathlib.Omega.{arith}
-use Rattle.model.specs.declared.Answer.{Answer}
 use Rattle.model.specs.declared.Command.{Command}
 use Rattle.model.specs.declared.Command.TheVariants.{Read, Write, FrontRead, Digest, ReadLock, Transition, PowerUp}
+use Rattle.model.specs.Answers.{Answer}
 use Rattle.model.specs.Commands.{class_of, sensing, transiting, access}
 use Rattle.model.specs.Claims.Terms.{not_power_up, quiet, stays_ready, Writing, writing_of, writes_at, digests_at, writes_nothing}
 use Rattle.model.specs.Claims.Classes.{Classes}
 
-pub by-class {ℓ} : (Q : Command → Type ℓ) → Q PowerUp → ((target high low : ℕ) → Q (Transition target high low))
+pub by-class {ℓ} : (Q : Command → Type ℓ) → Q PowerUp → ((target given : ℕ) → Q (Transition target given))
     → ((x : Command) → class_of x ≡ access → Q x) → (x : Command) → Q x
 by-class Q f g h (Read a) = h (Read a) refl
 by-class Q f g h (Write a value) = h (Write a value) refl
 by-class Q f g h (FrontRead a) = h (FrontRead a) refl
 by-class Q f g h (Digest a) = h (Digest a) refl
 by-class Q f g h (ReadLock number) = h (ReadLock number) refl
-by-class Q f g h (Transition target high low) = g target high low
+by-class Q f g h (Transition target given) = g target given
 by-class Q f g h PowerUp = f
 
 -- a write, a digest command, or a command that writes nothing by direct access
@@ -27,7 +27,7 @@ by-writing Q f g h (Write a value) = f a value
 by-writing Q f g h (FrontRead a) = h (FrontRead a) refl
 by-writing Q f g h (Digest a) = g a
 by-writing Q f g h (ReadLock number) = h (ReadLock number) refl
-by-writing Q f g h (Transition target high low) = h (Transition target high low) refl
+by-writing Q f g h (Transition target given) = h (Transition target given) refl
 by-writing Q f g h PowerUp = h PowerUp refl
 
 -- ---- what the terms of the claims say of a class
@@ -36,7 +36,7 @@ pub access-quiet : (x : Command) → class_of x ≡ access → quiet x
 access-quiet x e = rw (e, quiet) tt
 
 pub quiet-access : (x : Command) → quiet x → class_of x ≡ access
-quiet-access = by-class (λ (x : Command). quiet x → class_of x ≡ access) (λ q. absurd q) (λ target high low q. absurd q) (λ x e q. e)
+quiet-access = by-class (λ (x : Command). quiet x → class_of x ≡ access) (λ q. absurd q) (λ target given q. absurd q) (λ x e q. e)
 
 pub quiet-not-power-up : (x : Command) → quiet x → not_power_up x
 quiet-not-power-up x q = rw (quiet-access x q, not_power_up) tt
@@ -47,7 +47,7 @@ no-power-up x u e = rw e at u
 -- Ready lasts over no power-up
 pub lasts_on : (x : Command) (answer : Answer) → stays_ready x answer → not_power_up x
 lasts_on =
-    by-class (λ (x : Command). (answer : Answer) → stays_ready x answer → not_power_up x) (λ answer h. h) (λ target high low answer h. tt)
+    by-class (λ (x : Command). (answer : Answer) → stays_ready x answer → not_power_up x) (λ answer h. h) (λ target given answer h. tt)
     (λ x e answer h. rw (e, not_power_up) tt)
 
 pub access-not-transiting : (x : Command) → class_of x ≡ access → class_of x ≡ transiting → ⊥
@@ -63,15 +63,15 @@ access-not-sensing e = let z : ◌≡◌ {A = ℕ} 0 1 = cc in omega arith
 
 only-power-up : (x : Command) → class_of x ≡ sensing → x ≡ PowerUp
 only-power-up =
-    by-class (λ (x : Command). class_of x ≡ sensing → x ≡ PowerUp) (λ e. refl) (λ target high low e. absurd (sensing-not-transiting (sym e)))
+    by-class (λ (x : Command). class_of x ≡ sensing → x ≡ PowerUp) (λ e. refl) (λ target given e. absurd (sensing-not-transiting (sym e)))
     (λ x a e. absurd (access-not-sensing (sym a ∙ e)))
 
 abbrev Transits : Command → Type 0
-Transits x = (target : ℕ) × (high : ℕ) × (low : ℕ) × (x ≡ Transition target high low)
+Transits x = (target : ℕ) × (given : ℕ) × (x ≡ Transition target given)
 
 only-transitions : (x : Command) → class_of x ≡ transiting → Transits x
 only-transitions =
-    by-class (λ (x : Command). class_of x ≡ transiting → Transits x) (λ e. absurd (sensing-not-transiting e)) (λ target high low e. (target, high, low, refl))
+    by-class (λ (x : Command). class_of x ≡ transiting → Transits x) (λ e. absurd (sensing-not-transiting e)) (λ target given e. (target, given, refl))
     (λ x a e. absurd (access-not-transiting x a e))
 
 nothing_written : {w : Writing} {a value : ℕ} → w ≡ writes_nothing → w ≡ writes_at a value → ⊥
@@ -105,7 +105,7 @@ only-digests a =
 pub classes : Classes
 classes = record {
   power_ups = λ x. (only-power-up x, λ e. rw e);
-  transitions = λ x. (only-transitions x, λ t. rw t.3);
+  transitions = λ x. (only-transitions x, λ t. rw t.2);
   writes = λ x a value. (only-writes a value x, λ e. rw e);
   digests = λ x a. (only-digests a x, λ e. rw e);
 }

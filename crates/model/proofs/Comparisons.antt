@@ -1,4 +1,5 @@
 -- The token comparisons of a transition. The idea: an act compares once at most, and the code of its answer fixes whether it did and with which result.
+use Rattle.std.specs.Prelude.{Err, Result, ⊤}
 use mathlib.Core.Path.{◌≡◌, refl, ap}
 use mathlib.Core.Bool.{Bool, true, false}
 use mathlib.Core.List.{List, [], ◌∷◌}
@@ -10,7 +11,6 @@ use borrow.Author.Tests.{eqb-false}
 use Rattle.basics.specs.Choice.{when◌then◌else◌}
 use Rattle.basics.proofs.Choice.{true-not-false, if-both}
 use Rattle.words.specs.Programming.{program_answer}
-use Rattle.words.specs.declared.Programmed.{Programmed}
 use Rattle.partitions.specs.Map.{Map}
 use Rattle.life_cycle.specs.declared.Token.{Token}
 use Rattle.life_cycle.specs.declared.Token.TheVariants.{Nothing, RawUnlock, TestUnlock, TestExit, Rma}
@@ -18,7 +18,7 @@ use Rattle.life_cycle.specs.declared.Entry.{Entry}
 use Rattle.life_cycle.specs.declared.Entry.TheVariants.{Allowed, Forbidden}
 use Rattle.life_cycle.specs.Words.{counter_words, state_words}
 use Rattle.life_cycle.specs.Transitions.{table_entry}
-use Rattle.model.specs.declared.Answer.TheVariants.{TokenDiffers}
+use Rattle.model.specs.declared.Failure.TheVariants.{TokenDiffers}
 use Rattle.model.specs.declared.Command.TheVariants.{Transition}
 use Rattle.model.specs.Answers.{code_of}
 use Rattle.constants.specs.Constants.{raw_unlock_hash}
@@ -118,7 +118,7 @@ module _ (prims : Primitives) (map : Map) (m : Machine) (target given : ℕ) (en
   compares n test = by_result (test l)
     where
       by_result : (result : Bool) → ResultByCode entry
-          (with_comparison result (when result then perform (move_act prims map m target) l else perform (say TokenDiffers to_inert) l))
+          (with_comparison result (when result then perform (move_act prims map m target) l else perform (say (Err TokenDiffers) to_inert) l))
       by_result true = unfold when◌then◌else◌ in (moves-same n)
       by_result false = unfold when◌then◌else◌ with_comparison perform in (record {
         differs = λ z. refl;
@@ -149,28 +149,28 @@ module _ (prims : Primitives) (map : Map) (m : Machine) (target given : ℕ) whe
   asks (Allowed TestExit) l = locked prims map m target given (Allowed TestExit) l TestExit (some-token refl)
   asks (Allowed Rma) l = locked prims map m target given (Allowed Rma) l Rma (some-token refl)
 
-module _ (prims : Primitives) (map : Map) (m : Machine) (target high low : ℕ) where
+module _ (prims : Primitives) (map : Map) (m : Machine) (target given : ℕ) where
   abbrev entry : Entry
   entry = table_entry m.session.state target
 
   abbrev ActByCode : Act → Type 0
   ActByCode x = ResultByCode entry (perform x m.lent)
 
-  act-by-code : ActByCode (ready_act prims map m (Transition target high low))
+  act-by-code : ActByCode (ready_act prims map m (Transition target given))
   unfolding ready_act command_act transition_act perform
   act-by-code =
       if-both ActByCode _ _ _ (λ t. without entry 0x07 refl refl) λ t. if-both ActByCode _ _ _ (λ t. without entry 0x07 refl refl)
       λ t. if-both ActByCode _ _ _ (λ t. without entry 0x11 refl refl) λ t. if-both ActByCode _ _ _ (λ t. without entry 0x20 refl refl)
       λ t. after_both (ResultByCode entry)
       (program_answer life_cycle_rule m.lent.cells (counter_at map) (counter_words m.lent.constants (suc m.session.count))) _ _
-      (λ e. asks prims map m target (high * 2 ^ 64 + low) entry _) (λ cell e. without entry 0x04 refl refl)
+      (λ e. asks prims map m target given entry _) (λ cell e. without entry 0x04 refl refl)
 
-  pub step-compared : ByCode entry (code_of (step prims map (Transition target high low) m).result.answer)
-      (step prims map (Transition target high low) m).compared
+  pub step-compared : ByCode entry (code_of (step prims map (Transition target given) m).result.answer)
+      (step prims map (Transition target given) m).compared
   unfolding unchanged obey act performed
   step-compared =
-      step_both prims map (λ (s : Step). ByCode entry (code_of s.result.answer) s.compared) (Transition target high low) m
-      (λ answer j. judged-without (code_of answer) j) act-by-code
+      step_both prims map (λ (s : Step). ByCode entry (code_of s.result.answer) s.compared) (Transition target given) m
+      (λ failure j. judged-without (code_of (Err failure)) j) act-by-code
     where
       judged-without : (code : ℕ) → judgement_code code ≡ true → ByCode (table_entry m.session.state target) code []
       judged-without code j = record {
@@ -184,7 +184,7 @@ module _ (prims : Primitives) (map : Map) (m : Machine) (target high low : ℕ) 
 -- ---- the other commands compare nothing
 
 module _ (prims : Primitives) (map : Map) (m : Machine) where
-  after_none : (r : Programmed) (x : Performed) (f : ℕ → Performed) → x.compared ≡ [] → ((cell : ℕ) → (f cell).compared ≡ [])
+  after_none : (r : Result ⊤ ℕ) (x : Performed) (f : ℕ → Performed) → x.compared ≡ [] → ((cell : ℕ) → (f cell).compared ≡ [])
       → (after_program r x f).compared ≡ []
   after_none r x f e h = after_both (λ (p : Performed). p.compared ≡ []) r x f (λ q. e) (λ cell q. h cell)
 
@@ -208,5 +208,5 @@ module _ (prims : Primitives) (map : Map) (m : Machine) where
   no-comparison x n =
       step_both prims map (λ (s : Step). s.compared ≡ []) x m (λ answer j. refl)
       (by-class (λ (x : Command). (class_of x ≡ transiting → ⊥) → (obey prims map x m).compared ≡ []) (λ n. unfold obey power_up in refl)
-      (λ target high low n. absurd (n refl))
+      (λ target given n. absurd (n refl))
       (λ x e n. rw (obeys-act prims map x m (no-power-up x (quiet-not-power-up x (access-quiet x e)))) (act-none x n)) x n)

@@ -1,8 +1,8 @@
 -- A phase that becomes Dead carries the code that was answered. The idea: a power-up that fails names its reason with its answer, and of the other
 -- commands only an act that answers 4 makes the phase Dead.
+use Rattle.std.specs.Prelude.{Option, None, Some}
 use mathlib.Core.Path.{◌≡◌, refl, ap, ◌∙◌}
 use mathlib.Core.Bool.{true}
-use mathlib.Core.Option.{Option, none, some}
 use Prim.Native.Nat.{ℕ}
 use native.Mathlib.Omega.{arith}
 use Rattle.basics.proofs.Choice.{if-both, true-not-false, by_cases}
@@ -14,10 +14,9 @@ use Rattle.model.specs.declared.Reason.TheVariants.{BitCleared, DigestFailed, Li
 use Rattle.model.specs.declared.Phase.{Phase}
 use Rattle.model.specs.declared.Phase.TheVariants.{Off, Ready, Inert, Dead}
 use Rattle.model.specs.declared.Session.{Session}
-use Rattle.model.specs.declared.Answer.{Answer}
 use Rattle.model.specs.declared.Command.{Command}
 use Rattle.model.specs.Session.{reason_code, is_ready}
-use Rattle.model.specs.Answers.{code_of}
+use Rattle.model.specs.Answers.{Answer, code_of}
 use Rattle.model.specs.Lent.{Lent, Machine, Primitives}
 use Rattle.model.specs.Acts.{Effect, no_effect, lock, to_inert, to_dead, effect_on}
 use Rattle.model.specs.Commands.{ready_act}
@@ -75,9 +74,9 @@ module _ (prims : Primitives) (map : Map) (m : Machine) where
     powered-reason : (v : Option ℕ) (life : LifeCycle) (l : Lent) → (powered_session map (end_of v life) l).phase ≡ Dead reason
         → code_of (powered_answer (end_of v life)) ≡ reason_code reason
     unfolding end_of life_cycle_end powered_session powered_answer dead-code
-    powered-reason (some number) life l = ap dead-code
-    powered-reason none Invalid l = ap dead-code
-    powered-reason none (Valid state count) l =
+    powered-reason (Some number) life l = ap dead-code
+    powered-reason None Invalid l = ap dead-code
+    powered-reason None (Valid state count) l =
         if-both (λ (w : PowerUpEnd). (powered_session map w l).phase ≡ Dead reason → code_of (powered_answer w) ≡ reason_code reason) _ _ _
         (λ t. ap dead-code) (λ t e. absurd (not_dead e refl))
 

@@ -1,5 +1,6 @@
 -- A partition passes the check of its digest until its data are written. The idea: whatever leaves its words leaves the check's result; a digest command puts
 -- the digest of the words as they are; and no write reaches a hardware digest.
+use Rattle.std.specs.Prelude.{Ok}
 use mathlib.Core.Path.{◌≡◌, refl, sym, ap, ap₂, ◌∙◌}
 use mathlib.Core.Bool.{Bool, true, false, not, ◌||◌}
 use mathlib.Core.List.{List, [], ◌∷◌}
@@ -23,7 +24,6 @@ use Rattle.partitions.specs.Fitness.{fit}
 use Rattle.partitions.proofs.KindRights.{hardware-direct}
 use Rattle.partitions.proofs.Map.{inside, only, partition-at, partition-fit, end-within}
 use Rattle.partitions.proofs.Granules.{word_number}
-use Rattle.model.specs.declared.Answer.TheVariants.{Done}
 use Rattle.model.specs.declared.Command.{Command}
 use Rattle.model.specs.declared.Command.TheVariants.{Write, Digest}
 use Rattle.model.specs.Answers.{code_of}
@@ -193,7 +193,7 @@ module _ (prims : Primitives) (map : Map) (m : Machine) (a : ℕ) where
 
   -- where it is allowed, its act programs the digest
   allowed-act : Digestible prims map m a
-      → ready_act prims map m (Digest a) ≡ program digest_rule ((partition_at map a).digest / 2) (words_of 4 value) no_effect (say (Done value) no_effect)
+      → ready_act prims map m (Digest a) ≡ program digest_rule ((partition_at map a).digest / 2) (words_of 4 value) no_effect (say (Ok value) no_effect)
   unfolding ready_act command_act digest_act partition_at computed_digest digest_start digest_final data_words
   allowed-act d =
       if-false _ _ (ap not d.ready)
@@ -223,7 +223,7 @@ module _ (prims : Primitives) (map : Map) (m : Machine) (a : ℕ) where
         let f = partition-fit map F digested.known in
         rw length-words (omega (arith, f.tail digested.direct, end-within map F digested.known, cells-length prims map m r))
 
-    pub digest-done : (answer_to prims map (Digest a) m ≡ Done value)
+    pub digest-done : (answer_to prims map (Digest a) m ≡ Ok value)
         × Put digest_rule ((partition_at map a).digest / 2) (words_of 4 value) m.lent.cells (machine_after prims map (Digest a) m).lent.cells
     unfolding obey act performed perform
     digest-done =

@@ -1,5 +1,6 @@
 -- When a digest command answers 5 and 4. The idea: an address that is the start of a partition is in that partition, so that the guards of the act are the
 -- conditions of the rule; past them the four words of the location decide.
+use Rattle.std.specs.Prelude.{Ok, Err, Result, ⊤}
 use mathlib.Core.Path.{◌≡◌, refl, sym, ap, ◌∙◌}
 use mathlib.Core.Bool.{true, not, false, ◌||◌}
 use mathlib.Core.List.{List}
@@ -9,7 +10,6 @@ use native.Mathlib.Omega.{arith}
 use lib.Dec.{leb}
 use borrow.Author.Tests.{eq-eqb, not-true}
 use Rattle.basics.proofs.Choice.{true-not-false, if-both}
-use Rattle.words.specs.declared.Programmed.{Programmed}
 use Rattle.words.specs.Words.{words_of}
 use Rattle.words.specs.Programming.{program_answer}
 use Rattle.words.proofs.Words.{length-words}
@@ -17,8 +17,7 @@ use Rattle.words.proofs.Programming.{refused-not-done, refused-lowest, lowest-re
 use Rattle.partitions.specs.Fitness.{fit}
 use Rattle.partitions.specs.Map.{Map, rights_of, number_at, partition_at, limit}
 use Rattle.partitions.proofs.Map.{inside, only, partition-at, partition-fit, end-within}
-use Rattle.model.specs.declared.Answer.{Answer}
-use Rattle.model.specs.declared.Answer.TheVariants.{Done, NotBlank, Denied}
+use Rattle.model.specs.declared.Failure.TheVariants.{NotBlank, Denied}
 use Rattle.model.specs.declared.Command.TheVariants.{Digest}
 use Rattle.model.specs.Session.{is_ready, sensed_locked, sensed_at}
 use Rattle.model.specs.Lent.{Machine, Primitives}
@@ -33,8 +32,8 @@ use Rattle.model.proofs.Acts.{after_both}
 use Rattle.model.proofs.Steps.{step-obeys}
 use Rattle.model.proofs.StoredWords.{lowest-blank}
 use Rattle.model.proofs.Guards.{allowed-both, digest-guards, digest-open, allowed-there, allowed-below, not-locked}
-use Rattle.words.specs.declared.Programmed.TheVariants as programmed
 use Rattle.model.specs.declared.Phase.TheVariants as phase
+use Rattle.model.specs.Answers.{Answer}
 
 module _ (prims : Primitives) (map : Map) (F : fit map ≡ true) (m : Machine) (a : ℕ) where
   -- an allowed command's address is in its partition
@@ -82,13 +81,13 @@ module _ (prims : Primitives) (map : Map) (F : fit map ≡ true) (m : Machine) (
   abbrev words : List ℕ
   words = words_of 4 (computed_digest prims m.lent.constants (partition_at map a) m.lent.cells)
 
-  abbrev Takes : Programmed → Type 0
+  abbrev Takes : Result ⊤ ℕ → Type 0
   Takes result = program_answer digest_rule m.lent.cells ((partition_at map a).digest / 2) words ≡ result
 
   data DigestEnd (answer : Answer) : Type 0 where
-    denied : (Allowed → ⊥) → answer ≡ Denied → DigestEnd answer
-    stops : {i : ℕ} → Allowed → Takes (programmed.Refused i) → answer ≡ NotBlank i → DigestEnd answer
-    done : {value : ℕ} → Allowed → Takes programmed.Done → answer ≡ Done value → DigestEnd answer
+    denied : (Allowed → ⊥) → answer ≡ Err Denied → DigestEnd answer
+    stops : {i : ℕ} → Allowed → Takes (Err i) → answer ≡ Err (NotBlank i) → DigestEnd answer
+    done : {value : ℕ} → Allowed → Takes (Ok tt) → answer ≡ Ok value → DigestEnd answer
 
   abbrev Ends : Act → Type 0
   Ends x = DigestEnd (perform x m.lent).answer
@@ -106,12 +105,12 @@ module _ (prims : Primitives) (map : Map) (F : fit map ≡ true) (m : Machine) (
       × ((i : ℕ) → Says 0x04 i answer ↔ (Allowed × LowestBurnt m.lent.cells ((partition_at map a).digest / 2) 4 i))
 
   -- the lowest word that refuses, of four
-  lowest-of : (i : ℕ) → Takes (programmed.Refused i) → LowestBurnt m.lent.cells ((partition_at map a).digest / 2) 4 i
+  lowest-of : (i : ℕ) → Takes (Err i) → LowestBurnt m.lent.cells ((partition_at map a).digest / 2) 4 i
   lowest-of i t =
       rw length-words at ((lowest-blank m.lent.cells words ((partition_at map a).digest / 2) i).0
       (refused-lowest digest_rule words m.lent.cells ((partition_at map a).digest / 2) i t))
 
-  refused-at : (i : ℕ) → LowestBurnt m.lent.cells ((partition_at map a).digest / 2) 4 i → Takes (programmed.Refused i)
+  refused-at : (i : ℕ) → LowestBurnt m.lent.cells ((partition_at map a).digest / 2) 4 i → Takes (Err i)
   refused-at i b =
       lowest-refused digest_rule words m.lent.cells ((partition_at map a).digest / 2) i
       ((lowest-blank m.lent.cells words ((partition_at map a).digest / 2) i).1 (rw length-words b))
@@ -120,12 +119,12 @@ module _ (prims : Primitives) (map : Map) (F : fit map ≡ true) (m : Machine) (
   exact (denied n e) = rw e (((λ q. n), λ q. (refl, refl)), λ i. ((λ q. absurd (omega (arith, q.0))), λ q. absurd (n q.0)))
   exact (stops {i = k} d t e) = rw e (
     ((λ q. absurd (omega (arith, q.0))), λ q. absurd (q d)),
-    λ i. ((λ q. (d, lowest-of i (t ∙ ap programmed.Refused q.1))), λ q. (refl, same_word i (refused-at i q.1))),
+    λ i. ((λ q. (d, lowest-of i (t ∙ ap Err q.1))), λ q. (refl, same_word i (refused-at i q.1))),
   )
     where
       same_word : (i : ℕ) → program_answer digest_rule m.lent.cells ((partition_at map a).digest / 2)
-          (words_of 4 (computed_digest prims m.lent.constants (partition_at map a) m.lent.cells)) ≡ programmed.Refused i → k ≡ i
-      same_word i q = let z : programmed.Refused k ≡ programmed.Refused i = sym t ∙ q in cc
+          (words_of 4 (computed_digest prims m.lent.constants (partition_at map a) m.lent.cells)) ≡ Err i → k ≡ i
+      same_word i q = let z : Err k ≡ Err i = sym t ∙ q in cc
   exact (done d t e) = rw e (
     ((λ q. absurd (omega (arith, q.0))), λ q. absurd (q d)),
     λ i. ((λ q. absurd (omega (arith, q.0))), λ q. absurd (refused-not-done (sym (refused-at i q.1) ∙ t))),

@@ -1,5 +1,6 @@
 -- A digest is never written in part. The idea: the granule of an address in a digest is the whole digest, so a write or a digest command programs all of it
 -- or none; and no other command programs a word of it.
+use Rattle.std.specs.Prelude.{Ok}
 use mathlib.Core.Path.{◌≡◌, refl, sym, ap, ◌∙◌}
 use mathlib.Core.Bool.{true, ◌&&◌}
 use mathlib.Core.List.{List, [], ◌∷◌}
@@ -21,9 +22,9 @@ use Rattle.partitions.specs.Fitness.{fit}
 use Rattle.partitions.proofs.KindRights.{soft-plain, hardware-direct}
 use Rattle.partitions.proofs.Map.{inside, partition-at, partition-fit, end-within}
 use Rattle.partitions.proofs.Granules.{word-inside, word_number, digest-word, digest-granule}
-use Rattle.model.specs.declared.Answer.{Answer}
 use Rattle.model.specs.declared.Command.{Command}
 use Rattle.model.specs.declared.Command.TheVariants.{Write, Digest}
+use Rattle.model.specs.Answers.{Answer}
 use Rattle.model.specs.Lent.{Machine, Primitives}
 use Rattle.model.specs.Commands.{stored_digest, scrambled}
 use Rattle.model.specs.Step.{Step, unchanged, performed, act, power_up, after, machine_after, answer_to}
@@ -34,7 +35,6 @@ use Rattle.model.proofs.Steps.{outcome, step-all, cells-length, step-inputs}
 use Rattle.model.proofs.Forms.{Writes, Digesting}
 use Rattle.model.proofs.Targets.{WriteBurns, DigestBurns, left, burnt, write-burnt, digest-burnt}
 use Rattle.model.proofs.Classes.{by-writing}
-use Rattle.words.specs.declared.Programmed.TheVariants as programmed
 
 module _ (prims : Primitives) (map : Map) (F : fit map ≡ true) (n : ℕ) (D : Digested map n) where
   abbrev p : Partition
@@ -53,7 +53,7 @@ module _ (prims : Primitives) (map : Map) (F : fit map ≡ true) (n : ℕ) (D : 
 
   -- four words programmed there are the digest
   pub digest-taken : (rule : Rule) (m : Machine) → ValidInputs map m → (value : ℕ)
-      → program_answer rule m.lent.cells (p.digest / 2) (words_of 4 value) ≡ programmed.Done
+      → program_answer rule m.lent.cells (p.digest / 2) (words_of 4 value) ≡ Ok tt
       → value % 2 ^ 64 ≡ stored_digest p (program_cells rule m.lent.cells (p.digest / 2) (words_of 4 value))
   unfolding stored_digest
   digest-taken rule m r value e =

@@ -1,5 +1,6 @@
 -- What a failed digest check was caused by. The idea: a check that passed fails after a write to the partition's data alone; such a write is allowed where the
 -- sensed digest is zero, and the check fails where the stored one is not: then a digest command put it there since the last power-up.
+use Rattle.std.specs.Prelude.{Ok}
 use mathlib.Core.Path.{◌≡◌, refl, sym, ap, subst, ◌∙◌}
 use mathlib.Core.Bool.{true, false}
 use mathlib.Core.List.{List, [], ◌∷◌, ◌++◌}
@@ -15,11 +16,9 @@ use Rattle.partitions.specs.Map.{Map, rights_of, number_at, partition, partition
 use Rattle.partitions.specs.Fitness.{fit}
 use Rattle.partitions.proofs.KindRights.{hardware-direct}
 use Rattle.partitions.proofs.Map.{partition-at}
-use Rattle.model.specs.declared.Answer.{Answer}
-use Rattle.model.specs.declared.Answer.TheVariants.{Done}
 use Rattle.model.specs.declared.Command.{Command}
 use Rattle.model.specs.declared.Command.TheVariants.{Write, Digest, Transition, PowerUp}
-use Rattle.model.specs.Answers.{code_of}
+use Rattle.model.specs.Answers.{Answer, code_of}
 use Rattle.model.specs.Session.{is_ready, sensed_at}
 use Rattle.model.specs.Lent.{Machine, Primitives}
 use Rattle.model.specs.Commands.{stored_digest}
@@ -92,7 +91,7 @@ module _ (prims : Primitives) (map : Map) (F : fit map ≡ true) (n : ℕ) (D : 
     others : not_power_up x → data_not_written map n x (answer_to prims map x m) → stored (machine_after prims map x m) ≡ stored m → Role x m
 
   -- the stored digest stays, but for a digest command
-  keeps-digest : (x : Command) (m : Machine) → ValidInputs map m → ((a value : ℕ) → x ≡ Digest a → a ≡ p.start → answer_to prims map x m ≡ Done value → ⊥)
+  keeps-digest : (x : Command) (m : Machine) → ValidInputs map m → ((a value : ℕ) → x ≡ Digest a → a ≡ p.start → answer_to prims map x m ≡ Ok value → ⊥)
       → stored (machine_after prims map x m) ≡ stored m
   keeps-digest x m r h = go x (answer_to prims map x m) refl refl (step-changes prims map F n D x m r)
     where
@@ -131,7 +130,7 @@ module _ (prims : Primitives) (map : Map) (F : fit map ≡ true) (n : ℕ) (D : 
   role =
       by-writing (λ (x : Command). (m : Machine) → ValidInputs map m → Role x m) (λ a value m r. write-role m r a value) (λ a m r. digest-role m r a)
       (by-class (λ (x : Command). writing_of x ≡ writes_nothing → (m : Machine) → ValidInputs map m → Role x m) (λ e m r. powers_up refl)
-      (λ target high low e m r. idle-role (Transition target high low) m r e tt) (λ x c e m r. idle-role x m r e (rw (c, not_power_up) tt)))
+      (λ target given e m r. idle-role (Transition target given) m r e tt) (λ x c e m r. idle-role x m r e (rw (c, not_power_up) tt)))
 
   -- ---- the invariant
 

@@ -1,10 +1,10 @@
 -- What a failed life cycle check was caused by. The idea: a command leaves what the life cycle words decode to, or it is a transition that spent a stroke; that
 -- one leaves the state, or puts its target there, and its target is SCRAP or not.
+use Rattle.std.specs.Prelude.{Option, None, Some}
 use mathlib.Core.Path.{◌≡◌, sym, ap, ◌∙◌}
 use mathlib.Core.Bool.{true}
 use mathlib.Core.List.{List, [], ◌∷◌}
 use mathlib.Core.Logic.{◌⊎◌, inl, inr, ⊎_elim}
-use mathlib.Core.Option.{Option, none, some}
 use Prim.Native.Nat.{ℕ, suc}
 use native.Mathlib.Omega.{arith}
 use lib.Dec.{eqb}
@@ -55,14 +55,14 @@ module _ (prims : Primitives) (map : Map) (F : fit map ≡ true) where
       (working-same m _ (others-life prims map F x m c) w)
 
   -- a transition leaves it so, or went to SCRAP
-  transition-working : (m : Machine) → Reached prims map F m → Working m → (target high low : ℕ)
-      → Working (machine_after prims map (Transition target high low) m) ⊎ ((target ≡ 20) × (code_of (answer_to prims map (Transition target high low) m)
+  transition-working : (m : Machine) → Reached prims map F m → Working m → (target given : ℕ)
+      → Working (machine_after prims map (Transition target given) m) ⊎ ((target ≡ 20) × (code_of (answer_to prims map (Transition target given) m)
       ≡ 0x00))
-  transition-working m h w target high low = go (transition-life prims map F m h.held.right (recorded prims map F m h) target high low)
+  transition-working m h w target given = go (transition-life prims map F m h.held.right (recorded prims map F m h) target given)
     where
-      go : {code : ℕ} → LifeAfter prims map m target code (life_cycle_in map (machine_after prims map (Transition target high low) m).lent)
-          → Working (machine_after prims map (Transition target high low) m) ⊎ ((target ≡ 20) × (code ≡ 0x00))
-      go (kept s z f e) = inl (working-same m (machine_after prims map (Transition target high low) m) e w)
+      go : {code : ℕ} → LifeAfter prims map m target code (life_cycle_in map (machine_after prims map (Transition target given) m).lent)
+          → Working (machine_after prims map (Transition target given) m) ⊎ ((target ≡ 20) × (code ≡ 0x00))
+      go (kept s z f e) = inl (working-same m (machine_after prims map (Transition target given) m) e w)
       go (spent s v e) = inl (record {
         state = m.session.state;
         count = suc m.session.count;
@@ -79,20 +79,18 @@ module _ (prims : Primitives) (map : Map) (F : fit map ≡ true) where
   later x m l s = record {
     before = x ∷ s.before;
     behind = s.behind;
-    high = s.high;
-    low = s.low;
+    given = s.given;
     split = ap (λ (k : List Command). x ∷ k) s.split;
     moved = unfold after in s.moved;
   }
 
-  here : (m : Machine) (target high low : ℕ) (l : List Command) → target ≡ 20 → code_of (answer_to prims map (Transition target high low) m) ≡ 0x00
-      → Scrapped prims map m (Transition target high low ∷ l)
-  here m target high low l e z = record {
+  here : (m : Machine) (target given : ℕ) (l : List Command) → target ≡ 20 → code_of (answer_to prims map (Transition target given) m) ≡ 0x00
+      → Scrapped prims map m (Transition target given ∷ l)
+  here m target given l e z = record {
     before = [];
     behind = l;
-    high = high;
-    low = low;
-    split = ap (λ (t : ℕ). Transition t high low ∷ l) e;
+    given = given;
+    split = ap (λ (t : ℕ). Transition t given ∷ l) e;
     moved = unfold after in (rw e at z);
   }
 
@@ -100,8 +98,8 @@ module _ (prims : Primitives) (map : Map) (F : fit map ≡ true) where
   power-up-working : (v : Option ℕ) (life : LifeCycle) (state count : ℕ) → life ≡ Valid state count → (state ≡ 20 → ⊥)
       → code_of (powered_answer (end_of v life)) ≡ 0x07 → ⊥
   unfolding powered_answer end_of life_cycle_end
-  power-up-working (some number) life state count e n = λ z. omega arith
-  power-up-working none life state count e n =
+  power-up-working (Some number) life state count e n = λ z. omega arith
+  power-up-working None life state count e n =
       rw (e, life_cycle_end) (if-both (λ (a : PowerUpEnd). code_of (powered_answer a) ≡ 0x07 → ⊥) (eqb state 20) _ _ (λ t z. n (eqb-true _ _ t))
       (λ t z. omega arith))
 
@@ -122,8 +120,8 @@ module _ (prims : Primitives) (map : Map) (F : fit map ≡ true) where
       (λ (x : Command). (l : List Command) (m : Machine) → Reached prims map F m → Working m
       → (Working (machine_after prims map x m) → Claim l (machine_after prims map x m)) → Claim (x ∷ l) m)
       (λ l m h w f z. later PowerUp m l (f (up-working m w) z))
-      (λ target high low l m h w f z. ⊎_elim (λ q. later (Transition target high low) m l (f q z)) (λ q. here m target high low l q.0 q.1)
-      (transition-working m h w target high low))
+      (λ target given l m h w f z. ⊎_elim (λ q. later (Transition target given) m l (f q z)) (λ q. here m target given l q.0 q.1)
+      (transition-working m h w target given))
       (λ x c l m h w f z. later x m l (f (access-working x m c w) z))
 
   run : (l : List Command) (m : Machine) → Reached prims map F m → Working m → Claim l m

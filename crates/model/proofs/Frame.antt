@@ -97,19 +97,19 @@ module _ (prims : Primitives) (map : Map) (F : fit map ≡ true) where
         part-open (Digest a) (number_at map a) j w.ready d w.guards.unlocked e.0 (record { hard = rw e.0 hard; high = rw e.0 e.1 })
 
     -- counter words and state words are life cycle words
-    life_open : (target high low at : ℕ) (words : List ℕ) → is_ready m.session.phase ≡ true → counter_at map ≤ at → at + length words ≤ counter_at map + 44
-        → Pieces (Programmable map (Transition target high low) m.session) at words
-    life_open target high low at words r lo hi j from upto = life_cycle r refl (life-words j (omega arith) (omega arith))
+    life_open : (target given at : ℕ) (words : List ℕ) → is_ready m.session.phase ≡ true → counter_at map ≤ at → at + length words ≤ counter_at map + 44
+        → Pieces (Programmable map (Transition target given) m.session) at words
+    life_open target given at words r lo hi j from upto = life_cycle r refl (life-words j (omega arith) (omega arith))
 
     pub act-open : (x : Command) → Within (Pieces (Programmable map x m.session)) (ready_act prims map m x)
     act-open x = act-within prims map m (record {
       write = λ a value e w. rw e (write-open a value w);
       digest = λ a e w. rw e (digest-open a w);
       counter =
-          λ target high low e t. rw e (life_open target high low (counter_at map) (counter_words k' (suc m.session.count)) t.ready (omega arith)
+          λ target given e t. rw e (life_open target given (counter_at map) (counter_words k' (suc m.session.count)) t.ready (omega arith)
           (omega (arith, counter-length k' (suc m.session.count))));
       state =
-          λ target high low e t. rw e (life_open target high low (state_at map) (state_words k' target) t.ready from-state.0
+          λ target given e t. rw e (life_open target given (state_at map) (state_words k' target) t.ready from-state.0
           (rw state-length from-state.1));
     })
       where

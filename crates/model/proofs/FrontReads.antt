@@ -1,5 +1,6 @@
 -- Front reads, and that they show the same words once the partition is locked. The idea: a front read shows the copy, which is as the last power-up latched it;
 -- and every power-up since one that found a partition locked latches the words that it found.
+use Rattle.std.specs.Prelude.{Ok}
 use mathlib.Core.Path.{◌≡◌, refl, sym, ◌∙◌, ap}
 use mathlib.Core.Bool.{true}
 use mathlib.Core.List.{List, [], ◌∷◌, ◌++◌, append-nil, append_assoc}
@@ -16,7 +17,6 @@ use Rattle.partitions.specs.Map.{Map, rights_of, number_at, partition, partition
 use Rattle.partitions.specs.Fitness.{fit}
 use Rattle.partitions.proofs.Map.{partition-at, end-within, inside}
 use Rattle.partitions.proofs.Granules.{word-inside, word_number}
-use Rattle.model.specs.declared.Answer.TheVariants.{Done}
 use Rattle.model.specs.declared.Command.{Command}
 use Rattle.model.specs.declared.Command.TheVariants.{FrontRead, PowerUp}
 use Rattle.model.specs.Answers.{value_of}
@@ -45,7 +45,7 @@ module _ (prims : Primitives) (map : Map) where
     pub front : (rights_of (partition_at map a).kind).front ≡ true
     pub shown : value ≡ granule (partition_at map a) m.lent.copy a
 
-  pub front-seen : (m : Machine) (a value : ℕ) → (outcome prims map (FrontRead a) m).answer ≡ Done value → Seen m a value
+  pub front-seen : (m : Machine) (a value : ℕ) → (outcome prims map (FrontRead a) m).answer ≡ Ok value → Seen m a value
   unfolding ready_act command_act front_read_act perform
   front-seen m a value =
       if-both Q _ _ _ (λ t e. absurd (not_done refl e)) λ r. if-both Q _ _ _ (λ t e. absurd (not_done refl e)) λ t e.
@@ -57,7 +57,7 @@ module _ (prims : Primitives) (map : Map) where
       }
     where
       Q : Act → Type 0
-      Q x = (perform x m.lent).answer ≡ Done value → Seen m a value
+      Q x = (perform x m.lent).answer ≡ Ok value → Seen m a value
 
 -- ---- it shows what the last power-up found
 
@@ -79,12 +79,12 @@ module _ (prims : Primitives) (map : Map) (F : fit map ≡ true) where
           ∙ listed_at (copy_word prims map m.lent.constants c₀) 0 (limit map / 2) j low
           ∙ front-latched prims map m.lent.constants c₀ j (rw p (unfold partition_at in seen.front))
 
-  read-seen : (m : Machine) → ValidInputs map m → (a value : ℕ) → answer_to prims map (FrontRead a) m ≡ Done value → Seen prims map m a value
+  read-seen : (m : Machine) → ValidInputs map m → (a value : ℕ) → answer_to prims map (FrontRead a) m ≡ Ok value → Seen prims map m a value
   unfolding obey act performed
   read-seen m r a value = rw (step-obeys prims map (FrontRead a) m r, answer_to) (front-seen prims map m a value)
 
   pub fronts : (m : Machine) → ValidInputs map m → (l₀ l₁ : List Command) → NoPowerUp l₁ → (a value : ℕ)
-      → answer_to prims map (FrontRead a) (after prims map (l₀ ++ PowerUp ∷ l₁) m) ≡ Done value
+      → answer_to prims map (FrontRead a) (after prims map (l₀ ++ PowerUp ∷ l₁) m) ≡ Ok value
       → value ≡ granule (partition_at map a) (after prims map l₀ m).lent.cells a
   fronts m r l₀ l₁ u a value e =
       let m₁ = after prims map (l₀ ++ PowerUp ∷ l₁) m in
@@ -109,7 +109,7 @@ last_or (x ∷ l) =
     first : (x : Command) (l : List Command) → NoPowerUp l → Last (x ∷ l) ⊎ NoPowerUp (x ∷ l)
     first =
         by-class (λ (x : Command). (l : List Command) → NoPowerUp l → Last (x ∷ l) ⊎ NoPowerUp (x ∷ l))
-        (λ l u. inl (record { before = []; behind = l; split = refl; no_power_up = u })) (λ target high low l u. inr (tt, u))
+        (λ l u. inl (record { before = []; behind = l; split = refl; no_power_up = u })) (λ target given l u. inr (tt, u))
         (λ x e l u. inr (rw (e, not_power_up) tt, u))
 
 last_of : (l : List Command) → Last (PowerUp ∷ l)
@@ -150,7 +150,7 @@ module _ (prims : Primitives) (map : Map) (F : fit map ≡ true) (m : Machine) (
           rw (← partition-at map a e) (w.from, w.below)
 
   pub device-final : (l₂ : List Command) (a value : ℕ) → number_at map a ≡ n
-      → answer_to prims map (FrontRead a) (after prims map (l₁ ++ PowerUp ∷ l₂) m) ≡ Done value
+      → answer_to prims map (FrontRead a) (after prims map (l₁ ++ PowerUp ∷ l₂) m) ≡ Ok value
       → value ≡ granule (partition map n) c₁ a
   device-final l₂ a value e q =
       let k = last_of l₂ in

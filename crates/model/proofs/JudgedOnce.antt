@@ -5,8 +5,8 @@ use mathlib.Core.Bool.{true}
 use mathlib.Core.List.{List, [], ◌∷◌}
 use Rattle.partitions.specs.Map.{Map}
 use Rattle.constants.specs.Constants.{valid_constants}
-use Rattle.model.specs.declared.Answer.{Answer}
 use Rattle.model.specs.declared.Command.{Command}
+use Rattle.model.specs.Answers.{Answer}
 use Rattle.model.specs.Lent.{Machine, Primitives, right_lengths}
 use Rattle.model.specs.Step.{Step, obey, after, answers}
 use Rattle.model.proofs.Steps.{judged-obeys, obey-lengths, obey-constants}

@@ -51,7 +51,7 @@ module _ (prims : Primitives) (map : Map) (F : fit map ≡ true) where
   step-progress =
       by-class (λ (x : Command). (m : Machine) → Reached prims map F m
       → Progress (life_cycle_in map m.lent) (life_cycle_in map (machine_after prims map x m).lent))
-      (λ m h. up-progress m) (λ target high low m h. life-progress (transition-life prims map F m h.held.right (recorded prims map F m h) target high low))
+      (λ m h. up-progress m) (λ target given m h. life-progress (transition-life prims map F m h.held.right (recorded prims map F m h) target given))
       (λ x e m h. access-progress x m e)
 
   -- ---- a list of commands
@@ -71,11 +71,11 @@ module _ (prims : Primitives) (map : Map) (F : fit map ≡ true) where
   progress-run m r l₁ l₂ =
       rw (after-append prims map (PowerUp ∷ l₁) l₂ m) (after-progress l₂ (after prims map (PowerUp ∷ l₁) m) (since-reached prims map F m r l₁))
 
-  pub never-four : (m : Machine) → ValidInputs map m → (l : List Command) (target high low : ℕ)
-      → code_of (answer_to prims map (Transition target high low) (after prims map (PowerUp ∷ l) m)) ≡ 0x04 → ⊥
-  never-four m r l target high low =
+  pub never-four : (m : Machine) → ValidInputs map m → (l : List Command) (target given : ℕ)
+      → code_of (answer_to prims map (Transition target given) (after prims map (PowerUp ∷ l) m)) ≡ 0x04 → ⊥
+  never-four m r l target given =
       let h = since-reached prims map F m r l in
-      life-not-four (transition-life prims map F (after prims map (PowerUp ∷ l) m) h.held.right (recorded prims map F _ h) target high low)
+      life-not-four (transition-life prims map F (after prims map (PowerUp ∷ l) m) h.held.right (recorded prims map F _ h) target given)
 
 -- the count never falls
 progress-count : {x y : LifeCycle} → Progress x y → (s n t k : ℕ) → x ≡ Valid s n → y ≡ Valid t k → n ≤ k

@@ -94,22 +94,22 @@ module _ (prims : Primitives) (map : Map) (machine : Machine) where
   one_of given target token.TestExit e n c = inr c
   one_of given target token.Rma e n c = absurd (true-not-false e refl)
 
-  out-of-locked : (i target high low : ℕ) → i < 7 → machine.session.state ≡ 2 * i + 2 → (target ≡ 20 → ⊥)
-      → code_of (answer_to prims map (Transition target high low) machine) ≡ 0x00
-      → Compared prims map machine (high * 2 ^ 64 + low) true token.TestUnlock ⊎ Compared prims map machine (high * 2 ^ 64 + low) true token.TestExit
-  out-of-locked i target high low l e n z =
-      let a = (tokens-compared prims map machine target high low).0 z in
+  out-of-locked : (i target given : ℕ) → i < 7 → machine.session.state ≡ 2 * i + 2 → (target ≡ 20 → ⊥)
+      → code_of (answer_to prims map (Transition target given) machine) ≡ 0x00
+      → Compared prims map machine given true token.TestUnlock ⊎ Compared prims map machine given true token.TestExit
+  out-of-locked i target given l e n z =
+      let a = (tokens-compared prims map machine target given).0 z in
       let allowed : table_entry (2 * i + 2) target ≡ Allowed a.token = sym (ap (λ (s : ℕ). table_entry s target) e) ∙ a.allowed in
       let within = (allowed-ends (2 * i + 2) target allowed).within in
-      one_of (high * 2 ^ 64 + low) target a.token
+      one_of given target a.token
       (subst (λ (x : Entry). asks_one x target ≡ true) allowed (locked-asks i target l (omega (arith, within)))) n a.compared
 
-  to-rma : (high low : ℕ) → ((machine.session.state ≡ 16) ⊎ (machine.session.state ≡ 17))
-      → code_of (answer_to prims map (Transition 19 high low) machine) ≡ 0x00 → Compared prims map machine (high * 2 ^ 64 + low) true token.Rma
-  to-rma high low from z = subst (Compared prims map machine (high * 2 ^ 64 + low) true) (allowed_same (sym a.allowed ∙ ⊎_elim dev prod from)) a.compared
+  to-rma : (given : ℕ) → ((machine.session.state ≡ 16) ⊎ (machine.session.state ≡ 17))
+      → code_of (answer_to prims map (Transition 19 given) machine) ≡ 0x00 → Compared prims map machine given true token.Rma
+  to-rma given from z = subst (Compared prims map machine given true) (allowed_same (sym a.allowed ∙ ⊎_elim dev prod from)) a.compared
     where
-      a : Asked prims map machine 19 (high * 2 ^ 64 + low) true
-      a = (tokens-compared prims map machine 19 high low).0 z
+      a : Asked prims map machine 19 given true
+      a = (tokens-compared prims map machine 19 given).0 z
 
       dev : machine.session.state ≡ 16 → table_entry machine.session.state 19 ≡ Allowed token.Rma
       dev e = unfold table_entry is_test is_unlocked is_locked test_index when◌then◌else◌ in (rw e refl)

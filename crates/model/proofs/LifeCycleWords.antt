@@ -1,5 +1,6 @@
 -- The life cycle words of a machine. The idea: where they decode to the record's state and count, the words of one stroke more, and of an allowed state, cover
 -- them, so that both are taken and decode to the next count and state; every command but a transition leaves them.
+use Rattle.std.specs.Prelude.{Ok}
 use mathlib.Core.Path.{◌≡◌, refl, ap₂, ◌∙◌}
 use mathlib.Core.Bool.{true}
 use mathlib.Core.List.{List}
@@ -33,7 +34,6 @@ use Rattle.model.proofs.Acts.{perform-frame}
 use Rattle.model.proofs.Frame.{Programmable, unlocked, life_cycle, life-words, life-closed, life-same, act-open}
 use Rattle.model.proofs.Steps.{cells-length, after_act, powered_up}
 use Rattle.model.proofs.Classes.{access-not-transiting}
-use Rattle.words.specs.declared.Programmed.TheVariants as programmed
 use Rattle.partitions.specs.declared.Kind.TheVariants as kind
 
 -- the life cycle words decode to the record's state and count
@@ -64,7 +64,7 @@ module _ (prims : Primitives) (map : Map) (F : fit map ≡ true) (m : Machine) (
   unfolding life_cycle_in
   says = let d = decoded-says k _ _ _ _ live in (d.0, d.1)
 
-  pub stroke-fits : program_answer life_cycle_rule m.lent.cells (counter_at map) counter ≡ programmed.Done
+  pub stroke-fits : program_answer life_cycle_rule m.lent.cells (counter_at map) counter ≡ Ok tt
   stroke-fits = stroke-done k r.valid m.lent.cells (counter_at map) m.session.count says.0
 
   -- spending a stroke leaves the state words
@@ -76,7 +76,7 @@ module _ (prims : Primitives) (map : Map) (F : fit map ≡ true) (m : Machine) (
       ∙ says.1
 
   pub move-fits : (target : ℕ) {token : Token} → table_entry m.session.state target ≡ Allowed token
-      → program_answer life_cycle_rule cells₁ (state_at map) (state_words k target) ≡ programmed.Done
+      → program_answer life_cycle_rule cells₁ (state_at map) (state_words k target) ≡ Ok tt
   move-fits target a = transition-done k r.valid cells₁ (state_at map) m.session.state target state-stays a
 
 module _ (prims : Primitives) (map : Map) (F : fit map ≡ true) where

@@ -53,7 +53,7 @@ module _ (prims : Primitives) (map : Map) (F : fit map ≡ true) (n : ℕ) (D : 
   powered-sensed : (w : PowerUpEnd) (l : Lent) → (stored_digest (partition map n) l.cells ≡ 0 → ⊥)
       → is_ready (powered_session map w l).phase ≡ true → sensed_at (powered_session map w l) n ≡ 0 → ⊥
   unfolding powered_session is_ready sensed_at
-  powered-sensed (fails reason answer) l h r z = true-not-false r refl
+  powered-sensed (fails reason failure) l h r z = true-not-false r refl
   powered-sensed (succeeds state count) l h r z = h (sym (sensed-stored l) ∙ z)
 
   pub up-locked : (m : Machine) → (stored_digest (partition map n) m.lent.cells ≡ 0 → ⊥) → Locked (powered_up prims map m)

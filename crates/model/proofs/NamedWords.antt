@@ -1,5 +1,6 @@
 -- Which word a 4 names. The idea: a 4 comes of programming a target alone, and programming names the lowest word that refuses; a locked partition is refused
 -- before its words are asked.
+use Rattle.std.specs.Prelude.{Err}
 use mathlib.Core.Path.{◌≡◌, refl, sym, ap, ◌∙◌}
 use mathlib.Core.Bool.{true, not}
 use mathlib.Core.List.{List, [], ◌++◌}
@@ -18,11 +19,10 @@ use Rattle.partitions.specs.Map.{Map, number_at, partition_at, first_word, limit
 use Rattle.life_cycle.specs.Words.{counter_words, state_words}
 use Rattle.life_cycle.specs.Transitions.{table_entry}
 use Rattle.life_cycle.proofs.Encoding.{counter-length}
-use Rattle.model.specs.declared.Answer.{Answer}
-use Rattle.model.specs.declared.Answer.TheVariants.{Denied}
+use Rattle.model.specs.declared.Failure.TheVariants.{Denied}
 use Rattle.model.specs.declared.Command.{Command}
 use Rattle.model.specs.declared.Command.TheVariants.{Write, Digest, Transition, PowerUp}
-use Rattle.model.specs.Answers.{code_of, value_of}
+use Rattle.model.specs.Answers.{Answer, code_of, value_of}
 use Rattle.model.specs.Session.{is_ready, sensed_locked}
 use Rattle.model.specs.Lent.{Machine, Primitives}
 use Rattle.model.specs.Acts.{Act, refuse, perform}
@@ -72,11 +72,11 @@ module _ (prims : Primitives) (map : Map) (m : Machine) where
     compared = λ test same other. compares;
   }
 
-  transition-programs : (target high low : ℕ)
-      → Programs life_cycle_rule (counter_at map) (counter ++ state_words k target) (ready_act prims map m (Transition target high low))
-  transition-programs target high low = by_form (act-form prims map m (Transition target high low))
+  transition-programs : (target given : ℕ)
+      → Programs life_cycle_rule (counter_at map) (counter ++ state_words k target) (ready_act prims map m (Transition target given))
+  transition-programs target given = by_form (act-form prims map m (Transition target given))
     where
-      by_form : {act : Act} → Form prims map m (Transition target high low) act
+      by_form : {act : Act} → Form prims map m (Transition target given) act
           → Programs life_cycle_rule (counter_at map) (counter_words m.lent.constants (suc m.session.count) ++ state_words m.lent.constants target) act
       by_form (Form.refuses r) = refuses (refuses-above r)
       by_form (Form.used t n) = refuses refl
@@ -104,14 +104,14 @@ module _ (prims : Primitives) (map : Map) (m : Machine) where
       → Programs rule at words (ready_act prims map m x)
   target-programs (writing {a} {value} e) = rw (← e) (write-programs a value)
   target-programs (digesting {a}) = digest-programs a
-  target-programs (moving {target} {high} {low}) = transition-programs target high low
+  target-programs (moving {target} {given}) = transition-programs target given
 
   act-tells : {rule : Rule} {at : ℕ} {words : List ℕ} (x : Command) → obey prims map x m ≡ act prims map x m → Programs rule at words (ready_act prims map m x)
       → AnswerMeans rule cells at words (answer_to prims map x m)
   unfolding unchanged act performed
   act-tells {rule} {at} {words} x e p =
       step_both prims map (λ (s : Step). AnswerMeans rule cells at words s.result.answer) x m
-      (λ answer j. tells-nothing rule cells at words answer (judged-above (code_of answer) j)) (rw e (perform-programs p m.lent))
+      (λ failure j. tells-nothing rule cells at words (Err failure) (judged-above (code_of (Err failure)) j)) (rw e (perform-programs p m.lent))
 
   target-acts : {x : Command} {rule : Rule} {at : ℕ} {words : List ℕ} → Targets prims map m x rule at words → obey prims map x m ≡ act prims map x m
   unfolding obey
@@ -165,7 +165,7 @@ module _ (prims : Primitives) (map : Map) (m : Machine) where
   named : (x : Command) → Names x
   named =
       by-writing Names (λ a value. target-named (writing refl)) (λ a. target-named digesting)
-      (by-class (λ (x : Command). writing_of x ≡ writes_nothing → Names x) (λ e f. absurd (up-idle f)) (λ target high low e. target-named moving)
+      (by-class (λ (x : Command). writing_of x ≡ writes_nothing → Names x) (λ e f. absurd (up-idle f)) (λ target given e. target-named moving)
       (λ x c e f. absurd (idle x c e f)))
 
   -- ---- a locked partition

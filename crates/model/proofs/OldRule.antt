@@ -1,4 +1,5 @@
 -- The old rule in AUTH_STATE data. The idea: a granule there is two words, which a write programs as they are by `KeepBits`; every other command leaves them.
+use Rattle.std.specs.Prelude.{Ok, Err}
 use mathlib.Core.Path.{◌≡◌, refl, sym, ap, ap₂, ◌∙◌}
 use mathlib.Core.Bool.{true, false, not, ◌&&◌}
 use mathlib.Core.List.{List}
@@ -21,7 +22,7 @@ use Rattle.partitions.specs.Fitness.{fit}
 use Rattle.partitions.proofs.KindRights.{additive-kind}
 use Rattle.partitions.proofs.Map.{inside}
 use Rattle.partitions.proofs.Granules.{OneGranule, size-words, granule-inside, granule-within, shared-word}
-use Rattle.model.specs.declared.Answer.TheVariants.{Done, NotBlank}
+use Rattle.model.specs.declared.Failure.TheVariants.{NotBlank}
 use Rattle.model.specs.declared.Command.{Command}
 use Rattle.model.specs.declared.Command.TheVariants.{Write, Digest, PowerUp}
 use Rattle.model.specs.Lent.{Machine, Primitives, right_lengths}
@@ -41,7 +42,6 @@ use Rattle.model.proofs.Writes.{write-decided, write-takes, step_stays}
 use Rattle.model.proofs.Forms.{Writes}
 use Rattle.model.proofs.Classes.{by-writing}
 use Rattle.model.proofs.Guards.{write-open}
-use Rattle.words.specs.declared.Programmed.TheVariants as programmed
 
 -- ---- the rule of a place
 
@@ -147,8 +147,8 @@ module _ (prims : Primitives) (C : Cipher prims) (map : Map) (F : fit map ≡ tr
         → let rule = direct_rule (partition_at map b) b in
         let at = first_word (partition_at map b) b in
         let words = stored_words prims map m.lent.constants b value in
-        program_answer rule cells at words ≡ programmed.Done
-        → Gains a (two_words cells a) (Write b value) (Done 0) (two_words (program_cells rule cells at words) a)
+        program_answer rule cells at words ≡ Ok tt
+        → Gains a (two_words cells a) (Write b value) (Ok 0) (two_words (program_cells rule cells at words) a)
     written right b value w same done =
         let t = there w.below same in
         let rule = direct_rule (partition_at map b) b in
@@ -190,7 +190,7 @@ module _ (prims : Primitives) (C : Cipher prims) (map : Map) (F : fit map ≡ tr
 
   clears-refused : {a : ℕ} → InAuthState map a → (c₀ : List ℕ) (m : Machine) → Since prims map c₀ m → stored_digest (partition_at map a) c₀ ≡ 0
       → (value j : ℕ) → Lowest KeepBits m.lent.cells (a / 4 * 2) (words_of 2 value) j
-      → (answer_to prims map (Write a value) m ≡ NotBlank j) × (machine_after prims map (Write a value) m ≡ m)
+      → (answer_to prims map (Write a value) m ≡ Err (NotBlank j)) × (machine_after prims map (Write a value) m ≡ m)
   unfolding act performed perform after_program effect_on
   clears-refused {a} i c₀ m f z value j low =
       let e = write-decided prims C map F c₀ m f a value i.below (not-denied i _ z) in
@@ -225,7 +225,7 @@ module _ (prims : Primitives) (C : Cipher prims) (map : Map) (F : fit map ≡ tr
 
     clearing-refused : (value : ℕ) → stored_digest (partition_at map a) c₀ ≡ 0
         → (j : ℕ) → Lowest KeepBits m₁.lent.cells (a / 4 * 2) (words_of 2 value) j
-        → (answer_to prims map (Write a value) m₁ ≡ NotBlank j) × (machine_after prims map (Write a value) m₁ ≡ m₁)
+        → (answer_to prims map (Write a value) m₁ ≡ Err (NotBlank j)) × (machine_after prims map (Write a value) m₁ ≡ m₁)
     clearing-refused value z j low = clears-refused i c₀ m₁ since z value j low
 
   pub old-rule : OldRule prims map

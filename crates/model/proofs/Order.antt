@@ -1,5 +1,6 @@
 -- The refusals that all commands share. The idea: once what is lent is right, no act and no power-up answers 0x10 or 0x12; which answers an act gives is read
 -- off its ends.
+use Rattle.std.specs.Prelude.{Ok, Err}
 use mathlib.Core.Path.{◌≡◌, refl, ap, ◌∙◌}
 use mathlib.Core.Bool.{true, false, not, ◌||◌}
 use mathlib.Core.List.{List}
@@ -17,12 +18,11 @@ use Rattle.partitions.specs.Map.{Map}
 use Rattle.constants.specs.Constants.{const_c, const_d, const_a, const_b, pair_valid, valid_constants}
 use Rattle.constants.proofs.Constants.{pair}
 use Rattle.model.specs.declared.Phase.{Phase}
-use Rattle.model.specs.declared.Answer.{Answer}
-use Rattle.model.specs.declared.Answer.TheVariants.{Done, NotBlank, Denied, DigestFailed, NotReady, LifeCycleFailed, WrongLength, UnknownTarget}
-use Rattle.model.specs.declared.Answer.TheVariants.{InvalidConstants, StrokesUsed, NotInTable, TokenNotLocked, TokenDiffers}
+use Rattle.model.specs.declared.Failure.TheVariants.{NotBlank, Denied, DigestFailed, NotReady, LifeCycleFailed, WrongLength, UnknownTarget}
+use Rattle.model.specs.declared.Failure.TheVariants.{InvalidConstants, StrokesUsed, NotInTable, TokenNotLocked, TokenDiffers}
 use Rattle.model.specs.declared.Command.{Command}
 use Rattle.model.specs.declared.Command.TheVariants.{PowerUp}
-use Rattle.model.specs.Answers.{code_of, value_of}
+use Rattle.model.specs.Answers.{Answer, code_of, value_of}
 use Rattle.model.specs.Session.{is_ready}
 use Rattle.model.specs.Lent.{Lent, Machine, Primitives, right_lengths, right_sizes}
 use Rattle.model.specs.Acts.{Effect, Act, Performed, perform, no_effect}
@@ -40,42 +40,43 @@ use Rattle.model.proofs.Classes.{no-power-up}
 use Rattle.model.proofs.Forms.{Refuses}
 use Rattle.model.proofs.Leaves.{act-gives}
 use Rattle.model.specs.declared.Phase.TheVariants as phase
+use Rattle.model.specs.declared.Failure.{Failure}
 
 -- ---- the answers of an act
 
 abbrev Acted : Answer → Effect → Type 0
-Acted (Done value) t = Unit {0}
-Acted (NotBlank cell) t = Unit {0}
-Acted Denied t = Unit {0}
-Acted (DigestFailed partition) t = ⊥
-Acted NotReady t = Unit {0}
-Acted (LifeCycleFailed value) t = ⊥
-Acted WrongLength t = ⊥
-Acted UnknownTarget t = Unit {0}
-Acted InvalidConstants t = ⊥
-Acted StrokesUsed t = Unit {0}
-Acted NotInTable t = Unit {0}
-Acted TokenNotLocked t = Unit {0}
-Acted TokenDiffers t = Unit {0}
+Acted (Ok value) t = Unit {0}
+Acted (Err (NotBlank cell)) t = Unit {0}
+Acted (Err Denied) t = Unit {0}
+Acted (Err (DigestFailed partition)) t = ⊥
+Acted (Err NotReady) t = Unit {0}
+Acted (Err (LifeCycleFailed value)) t = ⊥
+Acted (Err WrongLength) t = ⊥
+Acted (Err UnknownTarget) t = Unit {0}
+Acted (Err InvalidConstants) t = ⊥
+Acted (Err StrokesUsed) t = Unit {0}
+Acted (Err NotInTable) t = Unit {0}
+Acted (Err TokenNotLocked) t = Unit {0}
+Acted (Err TokenDiffers) t = Unit {0}
 
 -- what is known of the code and the value of every answer after 0x10 and 0x12
 abbrev Plain : Answer → Type 0
 Plain answer = (eqb (code_of answer) 0x10 ≡ false) × (eqb (code_of answer) 0x12 ≡ false)
 
 acted-plain : (answer : Answer) (t : Effect) → Acted answer t → Plain answer × (valued (code_of answer) ≡ false → value_of answer ≡ 0)
-acted-plain (Done value) t h = ((refl, refl), λ e. absurd (true-not-false refl e))
-acted-plain (NotBlank cell) t h = ((refl, refl), λ e. absurd (true-not-false refl e))
-acted-plain Denied t h = ((refl, refl), λ e. refl)
-acted-plain (DigestFailed _) t h = elim h [ ]
-acted-plain NotReady t h = ((refl, refl), λ e. refl)
-acted-plain (LifeCycleFailed _) t h = elim h [ ]
-acted-plain WrongLength t h = elim h [ ]
-acted-plain UnknownTarget t h = ((refl, refl), λ e. refl)
-acted-plain InvalidConstants t h = elim h [ ]
-acted-plain StrokesUsed t h = ((refl, refl), λ e. refl)
-acted-plain NotInTable t h = ((refl, refl), λ e. refl)
-acted-plain TokenNotLocked t h = ((refl, refl), λ e. refl)
-acted-plain TokenDiffers t h = ((refl, refl), λ e. refl)
+acted-plain (Ok value) t h = ((refl, refl), λ e. absurd (true-not-false refl e))
+acted-plain (Err (NotBlank cell)) t h = ((refl, refl), λ e. absurd (true-not-false refl e))
+acted-plain (Err Denied) t h = ((refl, refl), λ e. refl)
+acted-plain (Err (DigestFailed _)) t h = elim h [ ]
+acted-plain (Err NotReady) t h = ((refl, refl), λ e. refl)
+acted-plain (Err (LifeCycleFailed _)) t h = elim h [ ]
+acted-plain (Err WrongLength) t h = elim h [ ]
+acted-plain (Err UnknownTarget) t h = ((refl, refl), λ e. refl)
+acted-plain (Err InvalidConstants) t h = elim h [ ]
+acted-plain (Err StrokesUsed) t h = ((refl, refl), λ e. refl)
+acted-plain (Err NotInTable) t h = ((refl, refl), λ e. refl)
+acted-plain (Err TokenNotLocked) t h = ((refl, refl), λ e. refl)
+acted-plain (Err TokenDiffers) t h = ((refl, refl), λ e. refl)
 
 acted-ends : Ends Acted
 acted-ends = record { not-blank = λ cell. tt; moved = tt; forbidden = tt; token_unlocked = tt; differs = tt }
@@ -86,7 +87,7 @@ module _ (prims : Primitives) (map : Map) (m : Machine) where
       act-gives prims map m
       (record { refused = refused-acted; done = λ q value. tt; not_blank = λ q cell. tt; locked = λ n e. tt; used = λ e. tt; spent = λ e. acted-ends })
     where
-      refused-acted : {y : Command} {answer : Answer} → Refuses y answer → Acted answer no_effect
+      refused-acted : {y : Command} {failure : Failure} → Refuses y failure → Acted (Err failure) no_effect
       refused-acted (Refuses.denied q) = tt
       refused-acted Refuses.not_ready = tt
       refused-acted Refuses.unknown_target = tt

@@ -1,12 +1,12 @@
 -- When a power-up gives each answer, and what it senses. The idea: the first partition that fails is found by the list of partitions; where none fails, the
 -- life cycle words decode to what they encode; and a word of the copy is what its kind and its side of the digest make of it.
+use Rattle.std.specs.Prelude.{Option, None, Some}
 use Rattle.model.specs.declared.Session.{Session}
 use Rattle.model.specs.declared.Command.{Command}
 use mathlib.Core.Path.{◌≡◌, refl, sym, ap, subst, ◌∙◌}
 use mathlib.Core.Bool.{Bool, true, false, not, ◌&&◌, ◌||◌}
 use mathlib.Core.List.{List, [], ◌∷◌}
 use mathlib.Core.Logic.{◌↔◌}
-use mathlib.Core.Option.{Option, none, some}
 use Prim.Native.Nat.{ℕ, ◌+◌, ◌*◌, ◌-◌, ◌/◌, ◌%◌, ◌<◌}
 use native.Mathlib.Omega.{arith}
 use lib.Dec.{eqb, leb, ltb}
@@ -49,7 +49,7 @@ use Rattle.partitions.specs.declared.Kind.TheVariants as kind
 
 -- ---- the first partition that fails
 
-pub none-fails : (prims : Primitives) (map : Map) (k c : List ℕ) → first_failing prims map k c ≡ none → (n : ℕ) → n < length map
+pub none-fails : (prims : Primitives) (map : Map) (k c : List ℕ) → first_failing prims map k c ≡ None → (n : ℕ) → n < length map
     → digest_holds prims k c (partition map n) ≡ true
 unfolding first_failing
 none-fails prims map k c e n l = none-all (λ i. digest_holds prims k c (partition map i)) 0 (length map) e n (omega arith) (omega arith)
@@ -81,7 +81,7 @@ module _ (prims : Primitives) (map : Map) (l : Lent) where
   passes : (n : ℕ) → n < length map → (Fails prims map l n → ⊥) → holds n ≡ true
   passes n known h = by_cases (holds n) (λ t. t) (λ t. absurd (h (failed n known t)))
 
-  verdict-fails : (n : ℕ) → verdict_of prims map l ≡ some n → FirstFails prims map l n
+  verdict-fails : (n : ℕ) → verdict_of prims map l ≡ Some n → FirstFails prims map l n
   unfolding first_failing
   verdict-fails n e =
       let f = some_first holds 0 (length map) n e in
@@ -90,7 +90,7 @@ module _ (prims : Primitives) (map : Map) (l : Lent) where
         first = λ j q h. true-not-false (f.before j (omega arith) q) (fails-failed j h);
       }
 
-  fails-verdict : (n : ℕ) → FirstFails prims map l n → verdict_of prims map l ≡ some n
+  fails-verdict : (n : ℕ) → FirstFails prims map l n → verdict_of prims map l ≡ Some n
   unfolding first_failing
   fails-verdict n f =
       first_some holds 0 (length map) n
@@ -101,7 +101,7 @@ module _ (prims : Primitives) (map : Map) (l : Lent) where
         before = λ j lo hi. passes j (omega (arith, f.fails.known)) (f.first j hi);
       })
 
-  none-verdict : ((n : ℕ) → Fails prims map l n → ⊥) → verdict_of prims map l ≡ none
+  none-verdict : ((n : ℕ) → Fails prims map l n → ⊥) → verdict_of prims map l ≡ None
   unfolding first_failing
   none-verdict h = all_none holds 0 (length map) (λ j lo hi. passes j (omega arith) (h j))
 
@@ -122,12 +122,12 @@ module _ (prims : Primitives) (map : Map) (m : Machine) (r : ValidInputs map m) 
 
   -- ---- the answers
 
-  six-verdict : (v : Option ℕ) (life : LifeCycle) (n : ℕ) → Says 0x06 n (powered_answer (end_of v life)) → v ≡ some n
+  six-verdict : (v : Option ℕ) (life : LifeCycle) (n : ℕ) → Says 0x06 n (powered_answer (end_of v life)) → v ≡ Some n
   unfolding powered_answer end_of life_cycle_end
-  six-verdict (some number) life n = λ e. ap some e.1
-  six-verdict none Invalid n = λ e. absurd (omega (arith, e.0))
-  six-verdict none (Valid state count) n =
-      if-both (λ w. Says 0x06 n (powered_answer w) → none ≡ some n) (eqb state 20) _ _ (λ t e. absurd (omega (arith, e.0)))
+  six-verdict (Some number) life n = λ e. ap Some e.1
+  six-verdict None Invalid n = λ e. absurd (omega (arith, e.0))
+  six-verdict None (Valid state count) n =
+      if-both (λ w. Says 0x06 n (powered_answer w) → None ≡ Some n) (eqb state 20) _ _ (λ t e. absurd (omega (arith, e.0)))
       (λ t e. absurd (omega (arith, e.0)))
 
   pub power-up-sixes : (n : ℕ) → Says 0x06 n (answer_to prims map PowerUp m) ↔ FirstFails prims map m.lent n
@@ -143,14 +143,14 @@ module _ (prims : Primitives) (map : Map) (m : Machine) (r : ValidInputs map m) 
   one_same e = cc
 
   pub power-up-verdicts : let seen = (step prims map PowerUp m).verdicts in
-      ((n : ℕ) → (seen ≡ some n ∷ []) ↔ FirstFails prims map m.lent n) × ((seen ≡ none ∷ []) ↔ ((n : ℕ) → Fails prims map m.lent n → ⊥))
+      ((n : ℕ) → (seen ≡ Some n ∷ []) ↔ FirstFails prims map m.lent n) × ((seen ≡ None ∷ []) ↔ ((n : ℕ) → Fails prims map m.lent n → ⊥))
   unfolding power_up
   power-up-verdicts = rw (step-up prims map m r) (
     (λ n. ((λ e. verdict-fails prims map m.lent n (one_same e)), λ f. ap (λ (v : Option ℕ). v ∷ []) (fails-verdict prims map m.lent n f))),
     ((λ e n f. none-fails-not (one_same e) n f), λ h. ap (λ (v : Option ℕ). v ∷ []) (none-verdict prims map m.lent h)),
   )
     where
-      none-fails-not : verdict_of prims map m.lent ≡ none → (n : ℕ) → Fails prims map m.lent n → ⊥
+      none-fails-not : verdict_of prims map m.lent ≡ None → (n : ℕ) → Fails prims map m.lent n → ⊥
       none-fails-not e n f =
           true-not-false (none-fails prims map m.lent.constants m.lent.cells e n f.known) (fails-failed prims map m.lent n f)
 

@@ -1,6 +1,6 @@
 -- Power-ups: what they depend on, twice in a row, and where they fail. The idea: a power-up reads cells and constants alone.
+use Rattle.std.specs.Prelude.{Option, None, Some}
 use mathlib.Core.Path.{◌≡◌, refl, ap, ap₂, ◌∙◌}
-use mathlib.Core.Option.{Option, none, some}
 use mathlib.Core.Bool.{true}
 use mathlib.Core.List.{List}
 use Prim.Native.Nat.{ℕ, ◌/◌}
@@ -24,7 +24,7 @@ use Rattle.model.specs.Step.{Step, unchanged, power_up, obey, step, machine_afte
 use Rattle.model.specs.Claims.Terms.{ValidInputs}
 use Rattle.model.proofs.Steps.{step-up, judged-obeys, obey-lengths, powered_up, refused-step, judgement-right, accepted-step}
 use Rattle.model.specs.declared.Reason.TheVariants as reason
-use Rattle.model.specs.declared.Answer.{Answer}
+use Rattle.model.specs.declared.Failure.{Failure}
 
 module _ (prims : Primitives) (map : Map) where
   -- neither copy nor record matters
@@ -35,12 +35,12 @@ module _ (prims : Primitives) (map : Map) where
 
     same_copy : (w : PowerUpEnd) → powered_copy prims map w l ≡ powered_copy prims map w l'
     unfolding powered_copy
-    same_copy (fails reason answer) = refl
+    same_copy (fails reason failure) = refl
     same_copy (succeeds state count) = rw (e, f)
 
     same-session : (w : PowerUpEnd) → powered_session map w l ≡ powered_session map w l'
     unfolding powered_session
-    same-session (fails reason answer) = refl
+    same-session (fails reason failure) = refl
     same-session (succeeds state count) = rw e
 
     same-lent : (copy : List ℕ) → with_copy copy l ≡ with_copy copy l'
@@ -83,23 +83,23 @@ module _ (prims : Primitives) (map : Map) where
       rw (up_up m e v, machine_after, answer_to) (u.0, u.1)
 
   -- a power-up that is refused leaves what is refused again
-  refused-again : (m : Machine) (answer : Answer) → step prims map PowerUp m ≡ unchanged answer m → Again (unchanged answer m)
+  refused-again : (m : Machine) (failure : Failure) → step prims map PowerUp m ≡ unchanged failure m → Again (unchanged failure m)
   unfolding unchanged
-  refused-again m answer e = (ap (λ (s : Step). s.result.machine) e, ap (λ (s : Step). s.result.answer) e)
+  refused-again m failure e = (ap (λ (s : Step). s.result.machine) e, ap (λ (s : Step). s.result.answer) e)
 
   pub again : (m : Machine) → Again (step prims map PowerUp m)
   unfolding obey
   again m =
       by-option (judgement map (sizes_of m.lent) m.lent.constants)
       (λ f. let q = judgement-right map (sizes_of m.lent) m.lent.constants f in rw (accepted-step prims map PowerUp m f) (up-again m q.0 q.1))
-      (λ answer f. rw (refused-step prims map PowerUp m answer f) (refused-again m answer (refused-step prims map PowerUp m answer f)))
+      (λ failure f. rw (refused-step prims map PowerUp m failure f) (refused-again m failure (refused-step prims map PowerUp m failure f)))
 
 -- ---- a power-up that fails
 
 module _ (prims : Primitives) (map : Map) where
   powered-cleared : (w : PowerUpEnd) (l : Lent) → (powered_session map w l).locks ≡ no_locks
   unfolding powered_session
-  powered-cleared (fails reason answer) l = refl
+  powered-cleared (fails reason failure) l = refl
   powered-cleared (succeeds state count) l = refl
 
   pub cleared : (m : Machine) → ValidInputs map m → (machine_after prims map PowerUp m).session.locks ≡ no_locks
@@ -121,9 +121,9 @@ module _ (prims : Primitives) (map : Map) where
 
   powered-failed : (v : Option ℕ) (life : LifeCycle) (l : Lent) → Failed (end_of v life) l
   unfolding end_of life_cycle_end powered_answer powered_copy powered_session when◌then◌else◌
-  powered-failed (some number) life l = λ n. (refl, refl)
-  powered-failed none Invalid l = λ n. (refl, refl)
-  powered-failed none (Valid state count) l = by_cases (eqb state 20) (λ t. rw t (λ n. (refl, refl))) (λ t. rw t (λ n. absurd (n refl)))
+  powered-failed (Some number) life l = λ n. (refl, refl)
+  powered-failed None Invalid l = λ n. (refl, refl)
+  powered-failed None (Valid state count) l = by_cases (eqb state 20) (λ t. rw t (λ n. (refl, refl))) (λ t. rw t (λ n. absurd (n refl)))
 
   pub failed : (m : Machine) → ValidInputs map m
       → let code = code_of (answer_to prims map PowerUp m) in

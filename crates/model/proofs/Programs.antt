@@ -1,4 +1,5 @@
 -- What an act programs in all. The idea: it programs its words in pieces that adjoin, the lowest first, so that it answers as if they were programmed at once.
+use Rattle.std.specs.Prelude.{Ok, Err}
 use mathlib.Core.Path.{◌≡◌, refl, sym, ◌∙◌}
 use mathlib.Core.Bool.{Bool, true}
 use mathlib.Core.List.{List, [], ◌++◌, append-nil}
@@ -11,18 +12,15 @@ use Rattle.basics.proofs.Choice.{if-both}
 use Rattle.words.specs.declared.Rule.{Rule}
 use Rattle.words.specs.Programming.{program_answer, program_cells}
 use Rattle.words.proofs.Programming.{answer-same, append-stop, append-next, program-elsewhere}
-use Rattle.model.specs.declared.Answer.{Answer}
-use Rattle.model.specs.declared.Answer.TheVariants.{Done}
-use Rattle.model.specs.Answers.{code_of, value_of}
+use Rattle.model.specs.Answers.{Answer, code_of, value_of}
 use Rattle.model.specs.Lent.{Lent, with_cells}
 use Rattle.model.specs.Acts.{Effect, Act, say, program, compare, Performed, with_comparison, perform}
 use Rattle.model.proofs.Acts.{after_both}
-use Rattle.words.specs.declared.Programmed.TheVariants as programmed
 
 -- by the rule, the act programs the words from a place on: it refuses with a code above 4, or piece by piece it comes to the end and answers 0
 pub data Programs (rule : Rule) : ℕ → List ℕ → Act → Type 0 where
   refuses : {at : ℕ} {words : List ℕ} {answer : Answer} {effect : Effect} → ltb 4 (code_of answer) ≡ true → Programs rule at words (say answer effect)
-  ends : {at value : ℕ} {effect : Effect} → Programs rule at [] (say (Done value) effect)
+  ends : {at value : ℕ} {effect : Effect} → Programs rule at [] (say (Ok value) effect)
   burns : {at next-at : ℕ} {words piece rest : List ℕ} {effect : Effect} {next : Act} → words ≡ piece ++ rest → next-at ≡ at + length piece
       → Programs rule next-at rest next
       → Programs rule at words (program rule at piece effect next)
@@ -31,14 +29,14 @@ pub data Programs (rule : Rule) : ℕ → List ℕ → Act → Type 0 where
 
 -- the last piece, after which 0 is answered
 pub last-piece : {rule : Rule} {at : ℕ} {words : List ℕ} {effect end : Effect} {value : ℕ}
-    → Programs rule at words (program rule at words effect (say (Done value) end))
+    → Programs rule at words (program rule at words effect (say (Ok value) end))
 last-piece {words = words} = burns (sym (append-nil words)) refl ends
 
 -- what its answer means: 0, that every word was taken; 4, which was refused
 abbrev pub AnswerMeans : Rule → List ℕ → ℕ → List ℕ → Answer → Type 0
 AnswerMeans rule cells at words answer =
-    (code_of answer ≡ 0x00 → program_answer rule cells at words ≡ programmed.Done)
-    × (code_of answer ≡ 0x04 → program_answer rule cells at words ≡ programmed.Refused (value_of answer))
+    (code_of answer ≡ 0x00 → program_answer rule cells at words ≡ Ok tt)
+    × (code_of answer ≡ 0x04 → program_answer rule cells at words ≡ Err (value_of answer))
 
 -- a code above 4 means neither
 pub tells-nothing : (rule : Rule) (cells : List ℕ) (at : ℕ) (words : List ℕ) (answer : Answer) → ltb 4 (code_of answer) ≡ true
@@ -46,7 +44,7 @@ pub tells-nothing : (rule : Rule) (cells : List ℕ) (at : ℕ) (words : List �
 tells-nothing rule cells at words answer e = let above = ltb-true 4 (code_of answer) e in ((λ z. absurd (omega arith)), λ f. absurd (omega arith))
 
 -- once a piece is done, the rest is asked of words that it did not change
-goes_on : (rule : Rule) (cells piece rest : List ℕ) (at next-at : ℕ) → next-at ≡ at + length piece → program_answer rule cells at piece ≡ programmed.Done
+goes_on : (rule : Rule) (cells piece rest : List ℕ) (at next-at : ℕ) → next-at ≡ at + length piece → program_answer rule cells at piece ≡ Ok tt
     → program_answer rule cells at (piece ++ rest) ≡ program_answer rule (program_cells rule cells at piece) next-at rest
 goes_on rule cells piece rest at next-at place e =
     rw place (append-next rule piece rest cells at e

@@ -1,5 +1,6 @@
 -- When a read and a front read answer 5 and 0, and what they show. The idea: the guards of the acts are the reasons, one by one; past them the kind and the
 -- side of the digest decide what the granule is.
+use Rattle.std.specs.Prelude.{Ok, Err}
 use mathlib.Core.Path.{◌≡◌, refl, sym, ap, subst, ◌∙◌}
 use mathlib.Core.Bool.{true, false, not, ◌&&◌, ◌||◌}
 use mathlib.Core.List.{List}
@@ -18,10 +19,9 @@ use Rattle.partitions.specs.Map.{Map, rights_of, number_at, partition_at, limit,
 use Rattle.partitions.proofs.KindRights.{life-cycle-only, front-not-scrambled}
 use Rattle.partitions.proofs.Map.{FitPartition, inside}
 use Rattle.partitions.proofs.Granules.{granule-plain, granule-scrambled, size-words, digest-words}
-use Rattle.model.specs.declared.Answer.{Answer}
-use Rattle.model.specs.declared.Answer.TheVariants.{Done, Denied}
+use Rattle.model.specs.declared.Failure.TheVariants.{Denied}
 use Rattle.model.specs.declared.Command.TheVariants.{Read, FrontRead}
-use Rattle.model.specs.Answers.{code_of, value_of}
+use Rattle.model.specs.Answers.{Answer, code_of, value_of}
 use Rattle.model.specs.Session.{is_ready, sensed_locked, read_locked}
 use Rattle.model.specs.Lent.{Machine, Primitives}
 use Rattle.model.specs.Acts.{Act, perform}
@@ -85,8 +85,8 @@ module _ (prims : Primitives) (map : Map) (F : fit map ≡ true) (m : Machine) (
   -- ---- the ends of a read on a Ready chip
 
   data ReadEnd (answer : Answer) : Type 0 where
-    denied : ReadDenied map m a → answer ≡ Denied → ReadEnd answer
-    done : {value : ℕ} → (ReadDenied map m a → ⊥) → Shown prims map k c a value → answer ≡ Done value → ReadEnd answer
+    denied : ReadDenied map m a → answer ≡ Err Denied → ReadEnd answer
+    done : {value : ℕ} → (ReadDenied map m a → ⊥) → Shown prims map k c a value → answer ≡ Ok value → ReadEnd answer
 
   abbrev Ends : Act → Type 0
   Ends x = ReadEnd (perform x m.lent).answer
@@ -140,24 +140,24 @@ module _ (prims : Primitives) (map : Map) (F : fit map ≡ true) (m : Machine) (
   unfolding is_ready
   read-exact r e = exact (ready-ends r (ap is_ready e))
 
-  shown : {answer : Answer} → ReadEnd answer → (value : ℕ) → answer ≡ Done value → Shown prims map k c a value
+  shown : {answer : Answer} → ReadEnd answer → (value : ℕ) → answer ≡ Ok value → Shown prims map k c a value
   shown (denied d e) value q = absurd (not_done refl (sym e ∙ q))
   shown (done n s e) value q = subst (Shown prims map k c a) (ap value_of (sym e ∙ q)) s
 
   -- a read that answers 0 is of a Ready chip
-  pub read-shows : ValidInputs map m → (value : ℕ) → answer_to prims map (Read a) m ≡ Done value → Shown prims map k c a value
+  pub read-shows : ValidInputs map m → (value : ℕ) → answer_to prims map (Read a) m ≡ Ok value → Shown prims map k c a value
   unfolding obey act performed ready_act perform
   read-shows r value =
       by_cases (is_ready m.session.phase) (λ e. shown (ready-ends r e) value)
       (λ e. rw (step-obeys prims map (Read a) m r, answer_to)
-      (if-both (λ (x : Act). (perform x m.lent).answer ≡ Done value → Shown prims map k c a value) (not (is_ready m.session.phase)) _ _
+      (if-both (λ (x : Act). (perform x m.lent).answer ≡ Ok value → Shown prims map k c a value) (not (is_ready m.session.phase)) _ _
       (λ t q. absurd (not_done refl q)) (λ t. absurd (true-not-false (ap not e) t))))
 
   -- ---- front reads
 
   abbrev Fronts : Answer → Type 0
   Fronts answer =
-      (InHwCfgData map a → answer ≡ Done (number_of (part_at m.lent.copy (a / 4 * 2) 2))) × ((InHwCfgData map a → ⊥) → Says 0x05 0 answer)
+      (InHwCfgData map a → answer ≡ Ok (number_of (part_at m.lent.copy (a / 4 * 2) 2))) × ((InHwCfgData map a → ⊥) → Says 0x05 0 answer)
 
   abbrev FrontEnds : Act → Type 0
   FrontEnds x = Fronts (perform x m.lent).answer
@@ -175,7 +175,7 @@ module _ (prims : Primitives) (map : Map) (F : fit map ≡ true) (m : Machine) (
       let rest = or-none-right (leb (limit map) a) _ t in
       let f = not-false _ (or-none-left closed _ rest) in
       let d = or-none-right closed _ rest in
-      ((λ h. ap Done (data-granule l f d)), λ n. absurd (n (record { below = leb-false _ _ l; is_hw_cfg = front-kind _ f; is_data = leb-false _ _ d }))))
+      ((λ h. ap Ok (data-granule l f d)), λ n. absurd (n (record { below = leb-false _ _ l; is_hw_cfg = front-kind _ f; is_data = leb-false _ _ d }))))
     where
       data-granule : leb (limit map) a ≡ false → (rights_of (partition_at map a).kind).front ≡ true → leb (partition_at map a).digest a ≡ false
           → granule (partition_at map a) m.lent.copy a ≡ number_of (part_at m.lent.copy (a / 4 * 2) 2)

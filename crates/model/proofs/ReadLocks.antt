@@ -1,5 +1,6 @@
 -- Read locks. The idea: of all commands only a read looks at the locks, and it changes nothing; so two machines that differ in one lock go on alike, and
 -- only reads of that partition's data tell them apart.
+use Rattle.std.specs.Prelude.{Ok, Err}
 use mathlib.Core.Path.{◌≡◌, refl, sym, ap, ◌∙◌}
 use mathlib.Core.Bool.{Bool, true, false, not, ◌||◌}
 use mathlib.Core.List.{List, [], ◌∷◌}
@@ -16,7 +17,7 @@ use Rattle.partitions.specs.Fitness.{fit}
 use Rattle.partitions.proofs.KindRights.{lockable-direct}
 use Rattle.partitions.proofs.Map.{digest-below-ten, partition-at, direct-known}
 use Rattle.model.specs.declared.Session.{Session}
-use Rattle.model.specs.declared.Answer.TheVariants.{Denied, NotReady, Done}
+use Rattle.model.specs.declared.Failure.TheVariants.{Denied, NotReady}
 use Rattle.model.specs.declared.Command.{Command}
 use Rattle.model.specs.declared.Command.TheVariants.{Read, Write, FrontRead, Digest, ReadLock, Transition, PowerUp}
 use Rattle.model.specs.Answers.{code_of}
@@ -102,7 +103,7 @@ module _ (prims : Primitives) (map : Map) (n : ℕ) where
   by-locks (FrontRead a) m ys f g = g refl
   by-locks (Digest a) m ys f g = g refl
   by-locks (ReadLock number) m ys f g = g refl
-  by-locks (Transition target high low) m ys f g = g refl
+  by-locks (Transition target given) m ys f g = g refl
   by-locks PowerUp m ys f g = g refl
 
   -- a read of something else answers alike
@@ -230,7 +231,7 @@ module _ (prims : Primitives) (map : Map) where
   -- from a power-up on the record has ten locks
   powered-space : (w : PowerUpEnd) (l : Lent) → length (powered_session map w l).locks ≡ 10
   unfolding powered_session
-  powered-space (fails reason answer) l = refl
+  powered-space (fails reason failure) l = refl
   powered-space (succeeds state count) l = refl
 
   step-space : (x : Command) (m : Machine) → length m.session.locks ≡ 10 → length (machine_after prims map x m).session.locks ≡ 10
@@ -263,7 +264,7 @@ module _ (prims : Primitives) (map : Map) where
   -- a read of data that are locked
   read-denied : (n : ℕ) (m : Machine) → ValidInputs map m → (rights_of (partition map n).kind).lockable ≡ true → read_locked m.session n ≡ true → (a : ℕ)
       → number_at map a ≡ n → a < (partition_at map a).digest
-      → answer_to prims map (Read a) m ≡ (when is_ready m.session.phase then Denied else NotReady)
+      → answer_to prims map (Read a) m ≡ (when is_ready m.session.phase then Err Denied else Err NotReady)
   unfolding obey act performed ready_act command_act read_act read_denied perform in_digest when◌then◌else◌
   read-denied n m r k e a there is_data =
       let kind : (rights_of (partition_at map a).kind).lockable ≡ true = rw (partition-at map a there) k in
@@ -279,7 +280,7 @@ module _ (prims : Primitives) (map : Map) where
       → (l : List Command) → NoPowerUp l
       → let m₁ = after prims map l (machine_after prims map (ReadLock n) m₀) in
       (a : ℕ) → number_at map a ≡ n → a < (partition_at map a).digest
-      → answer_to prims map (Read a) m₁ ≡ (when is_ready m₁.session.phase then Denied else NotReady)
+      → answer_to prims map (Read a) m₁ ≡ (when is_ready m₁.session.phase then Err Denied else Err NotReady)
   locks-last F m r l₀ n z l u a there is_data =
       let m₀ = after prims map (PowerUp ∷ l₀) m in
       let m₁ = after prims map l (machine_after prims map (ReadLock n) m₀) in
@@ -310,7 +311,7 @@ module _ (prims : Primitives) (map : Map) (m : Machine) (n : ℕ) where
   abbrev Taken : Step → Type 0
   Taken s =
       (n < length map → Lockable (partition map n).kind
-      → (s.result.answer ≡ Done 0) × (s.result.machine ≡ record { lent = m.lent; session = with_locks (set m.session.locks n true) m.session }))
+      → (s.result.answer ≡ Ok 0) × (s.result.machine ≡ record { lent = m.lent; session = with_locks (set m.session.locks n true) m.session }))
       × ((n < length map → Lockable (partition map n).kind → ⊥) → Says 0x05 0 s.result.answer)
 
   pub lock-exact : ValidInputs map m → m.session.phase ≡ Ready → Taken (step prims map (ReadLock n) m)

@@ -1,18 +1,18 @@
 -- Commands after which Ready lasts. The idea: each is an act whose effect leaves the phase.
+use Rattle.std.specs.Prelude.{Ok, Err}
 use mathlib.Core.Path.{◌≡◌, refl, ◌∙◌}
 use mathlib.Core.Bool.{false}
 use lib.Dec.{eqb}
 use borrow.Author.Tests.{eqb-false}
 use Rattle.partitions.specs.Map.{Map}
-use Rattle.model.specs.declared.Answer.{Answer}
 use Rattle.model.specs.declared.Command.{Command}
-use Rattle.model.specs.Answers.{code_of}
+use Rattle.model.specs.Answers.{Answer, code_of}
 use Rattle.model.specs.Lent.{Machine, Primitives}
 use Rattle.model.specs.Acts.{Effect}
 use Rattle.model.specs.Commands.{ready_act, class_of, transiting}
 use Rattle.model.specs.Step.{act, step, answer_to}
 use Rattle.model.specs.Claims.Terms.{ValidInputs, stays_ready}
-use Rattle.model.specs.declared.Answer.TheVariants.{StrokesUsed, NotBlank, Done, NotInTable, TokenNotLocked, TokenDiffers}
+use Rattle.model.specs.declared.Failure.TheVariants.{StrokesUsed, NotBlank, NotInTable, TokenNotLocked, TokenDiffers}
 use Rattle.model.proofs.Acts.{Gives}
 use Rattle.model.proofs.Steps.{obeys-act, step-obeys}
 use Rattle.model.proofs.Effects.{leaves_phase}
@@ -33,13 +33,13 @@ act-leaves-phase prims map m x = act-gives prims map m (record {
   done = λ q value h. tt;
   not_blank = λ q cell h. tt;
   locked = λ n e h. tt;
-  used = λ e h. other x StrokesUsed e refl h;
+  used = λ e h. other x (Err StrokesUsed) e refl h;
   spent = λ e. record {
-    not-blank = λ cell h. other x (NotBlank cell) e refl h;
-    moved = λ h. other x (Done 0) e refl h;
-    forbidden = λ h. other x NotInTable e refl h;
-    token_unlocked = λ h. other x TokenNotLocked e refl h;
-    differs = λ h. other x TokenDiffers e refl h;
+    not-blank = λ cell h. other x (Err (NotBlank cell)) e refl h;
+    moved = λ h. other x (Ok 0) e refl h;
+    forbidden = λ h. other x (Err NotInTable) e refl h;
+    token_unlocked = λ h. other x (Err TokenNotLocked) e refl h;
+    differs = λ h. other x (Err TokenDiffers) e refl h;
   };
 })
 

@@ -1,9 +1,9 @@
 -- A refusal changes nothing. The idea: a command but transition and power-up says its only answer other than 0 with nothing done, or programs once
 -- and refuses that; a transition refuses early with nothing done, or changes the phase with each later answer.
+use Rattle.std.specs.Prelude.{Ok, Err, Option}
 use mathlib.Core.Path.{◌≡◌, refl}
 use mathlib.Core.Bool.{true, false}
 use mathlib.Core.List.{List}
-use mathlib.Core.Option.{Option}
 use Prim.Native.Nat.{ℕ}
 use lib.Dec.{eqb}
 use borrow.Author.Tests.{eqb-false}
@@ -14,13 +14,13 @@ use Rattle.words.specs.Programming.{program_answer}
 use Rattle.partitions.specs.Map.{Map}
 use Rattle.life_cycle.specs.declared.LifeCycle.{LifeCycle}
 use Rattle.life_cycle.specs.Transitions.{table_entry}
-use Rattle.model.specs.declared.Answer.{Answer}
-use Rattle.model.specs.declared.Answer.TheVariants.{Done, NotBlank, NotInTable, TokenNotLocked, TokenDiffers}
+use Rattle.model.specs.declared.Failure.TheVariants.{NotBlank, NotInTable, TokenNotLocked, TokenDiffers}
 use Rattle.model.specs.declared.Session.{Session}
 use Rattle.model.specs.declared.Command.{Command}
 use Rattle.model.specs.declared.Command.TheVariants.{Transition, PowerUp}
+use Rattle.model.specs.declared.Failure.{Failure}
 use Rattle.model.specs.Session.{in_phase}
-use Rattle.model.specs.Answers.{code_of}
+use Rattle.model.specs.Answers.{Answer, code_of}
 use Rattle.model.specs.Lent.{Machine, Primitives}
 use Rattle.model.specs.Acts.{Effect, no_effect, to_inert, to_dead, Act, say, program, effect_on, Performed, perform}
 use Rattle.model.specs.Commands.{ready_act}
@@ -43,7 +43,7 @@ Nothing-done cells r = (code_of r.answer ≡ 0x00 → ⊥) → (r.cells ≡ cell
 
 module _ (prims : Primitives) (map : Map) (m : Machine) where
   program-clean : (rule : Rule) (at : ℕ) (words : List ℕ) (value : ℕ)
-      → Nothing-done m.lent.cells (perform (program rule at words no_effect (say (Done value) no_effect)) m.lent)
+      → Nothing-done m.lent.cells (perform (program rule at words no_effect (say (Ok value) no_effect)) m.lent)
   unfolding perform
   program-clean rule at words value =
       after_both (Nothing-done m.lent.cells) (program_answer rule m.lent.cells at words) _ _ (λ e h. absurd (h refl)) (λ cell e h. (refl, refl))
@@ -115,18 +115,18 @@ later-by answer effect e u f = (e, eqb-false _ _ u, f)
 later-ends : Ends Later
 unfolding early phase_after effect_on when◌then◌else◌
 later-ends = record {
-  not-blank = λ cell. later-by (NotBlank cell) to_dead refl refl (λ s. refl);
-  moved = later-by (Done 0) to_inert refl refl (λ s. refl);
-  forbidden = later-by NotInTable to_inert refl refl (λ s. refl);
-  token_unlocked = later-by TokenNotLocked to_inert refl refl (λ s. refl);
-  differs = later-by TokenDiffers to_inert refl refl (λ s. refl);
+  not-blank = λ cell. later-by (Err (NotBlank cell)) to_dead refl refl (λ s. refl);
+  moved = later-by (Ok 0) to_inert refl refl (λ s. refl);
+  forbidden = later-by (Err NotInTable) to_inert refl refl (λ s. refl);
+  token_unlocked = later-by (Err TokenNotLocked) to_inert refl refl (λ s. refl);
+  differs = later-by (Err TokenDiffers) to_inert refl refl (λ s. refl);
 }
 
 module _ (prims : Primitives) (map : Map) (m : Machine) where
   abbrev Ends-so : Act → Type 0
   Ends-so act = Ended m.session m.lent.cells (perform act m.lent)
 
-  refused-early : {target high low : ℕ} {answer : Answer} → Refuses (Transition target high low) answer → early (code_of answer) ≡ true
+  refused-early : {target given : ℕ} {failure : Failure} → Refuses (Transition target given) failure → early (code_of (Err failure)) ≡ true
   unfolding early
   refused-early (Refuses.denied q) = absurd q
   refused-early Refuses.not_ready = refl
@@ -137,7 +137,7 @@ module _ (prims : Primitives) (map : Map) (m : Machine) where
       let l = perform-gives g m.lent in
       ((λ j. absurd (true-not-false j l.0)), λ j. (l.2 m.session, λ u. absurd (l.1 u)))
 
-  form-ends : {target high low : ℕ} {act : Act} → Form prims map m (Transition target high low) act → Ends-so act
+  form-ends : {target given : ℕ} {act : Act} → Form prims map m (Transition target given) act → Ends-so act
   unfolding perform early phase_after effect_on when◌then◌else◌
   form-ends (Form.refuses r) = ((λ j. (refl, refl)), λ j. absurd (true-not-false (refused-early r) j))
   form-ends (Form.used t n) = ((λ j. absurd (true-not-false j refl)), λ j. (refl, λ u. refl))
@@ -154,11 +154,11 @@ module _ (prims : Primitives) (map : Map) (m : Machine) where
       × (s.result.machine.session ≡ in_phase (phase_after code) m.session)
       × (code ≡ 0x20 → s.result.machine.lent.cells ≡ m.lent.cells))
 
-  pub transitions-refuse : (target high low : ℕ) → Transited (step prims map (Transition target high low) m)
+  pub transitions-refuse : (target given : ℕ) → Transited (step prims map (Transition target given) m)
   unfolding unchanged obey act performed
-  transitions-refuse target high low =
-      let x = Transition target high low in
+  transitions-refuse target given =
+      let x = Transition target given in
       let r : Performed = perform (ready_act prims map m x) m.lent in
       let ended : Ended m.session m.lent.cells r = form-ends (act-form prims map m x) in
-      step_both prims map Transited x m (λ answer e. ((λ j. refl), λ j. absurd (true-not-false (judged-early (code_of answer) e) j)))
+      step_both prims map Transited x m (λ failure e. ((λ j. refl), λ j. absurd (true-not-false (judged-early (code_of (Err failure)) e) j)))
       ((λ j. same-machine m r (ended.0 j).0 (ended.0 j).1), λ j. (refl, (ended.1 j).0, (ended.1 j).1))

@@ -1,5 +1,6 @@
 -- Nothing is burnt twice. The idea: what direct access programs is a whole granule that was blank; so a word that is not zero was not in it, and two
 -- granules that share a word are one.
+use Rattle.std.specs.Prelude.{Ok}
 use mathlib.Core.Path.{◌≡◌, refl, sym, ap, ◌∙◌}
 use mathlib.Core.Bool.{true}
 use mathlib.Core.List.{List, [], ◌∷◌, ◌++◌}
@@ -28,7 +29,6 @@ use Rattle.model.proofs.Frame.{programs-none-granule, programs-nowhere}
 use Rattle.model.proofs.Steps.{after-append, outcome, step-all}
 use Rattle.model.proofs.NamedWords.{target-tells}
 use Rattle.model.proofs.Classes.{by-writing}
-use Rattle.words.specs.declared.Programmed.TheVariants as programmed
 
 -- a granule has one rule
 one-rule : (map : Map) {a b : ℕ} → OneGranule map a b → direct_rule (partition_at map a) a ≡ direct_rule (partition_at map b) b
@@ -57,7 +57,7 @@ module _ (prims : Primitives) (map : Map) (F : fit map ≡ true) where
     -- and so does each word of a granule that is not blank: were one of them programmed, the granule would be the target
     module _ (a : ℕ) (below : a < limit map) (new : direct_rule (partition_at map a) a ≡ BlankOnly) (h : granule (partition_at map a) cells a ≡ 0 → ⊥)
         (j : ℕ) (lo : first_word (partition_at map a) a ≤ j) (hi : j < first_word (partition_at map a) a + word_count (partition_at map a) a) where
-      blank : {rule : Rule} {at : ℕ} (words : List ℕ) → Target map rule at (length words) → program_answer rule cells at words ≡ programmed.Done
+      blank : {rule : Rule} {at : ℕ} (words : List ℕ) → Target map rule at (length words) → program_answer rule cells at words ≡ Ok tt
           → at ≤ j → j < at + length words → granule (partition_at map a) cells a ≡ 0
       unfolding granule
       blank words t k lo' hi' =

@@ -1,9 +1,9 @@
 -- What a power-up found, until the next: one invariant for all that lasts since. The idea: a command that leaves the phase Ready is no transition that spent a
 -- stroke; so it leaves the life cycle words, and what is sensed locked, as they were, and no command but power-up writes the copy or the sensed digests.
+use Rattle.std.specs.Prelude.{Option, None, Some}
 use mathlib.Core.Path.{◌≡◌, refl, sym, ap, subst, ◌∙◌}
 use mathlib.Core.Bool.{true}
 use mathlib.Core.List.{List, [], ◌∷◌, ◌++◌}
-use mathlib.Core.Option.{Option, none, some}
 use Prim.Native.Nat.{ℕ, ◌+◌, ◌*◌, ◌/◌, ◌≤◌, ◌<◌}
 use native.Mathlib.Omega.{arith}
 use lib.Dec.{eqb}
@@ -16,7 +16,7 @@ use Rattle.partitions.specs.Fitness.{fit}
 use Rattle.partitions.proofs.Map.{only, life-cycle-last}
 use Rattle.life_cycle.specs.declared.LifeCycle.{LifeCycle}
 use Rattle.life_cycle.specs.declared.LifeCycle.TheVariants.{Valid, Invalid}
-use Rattle.model.specs.declared.Answer.TheVariants.{LifeCycleFailed}
+use Rattle.model.specs.declared.Failure.TheVariants.{LifeCycleFailed}
 use Rattle.model.specs.declared.Command.{Command}
 use Rattle.model.specs.declared.Command.TheVariants.{Transition, PowerUp}
 use Rattle.model.specs.Answers.{code_of}
@@ -46,7 +46,7 @@ module _ (prims : Primitives) (map : Map) (F : fit map ≡ true) where
   -- ---- a power-up that leaves the phase Ready
 
   record Succeeded (v : Option ℕ) (life : LifeCycle) (w : PowerUpEnd) (l : Lent) : Type 0 where
-    checked : v ≡ none
+    checked : v ≡ None
     decodes : life ≡ Valid (powered_session map w l).state (powered_session map w l).count
     not_scrap : (powered_session map w l).state ≡ 20 → ⊥
     copy : powered_copy prims map w l ≡ listed (copy_word prims map l.constants l.cells) 0 (limit map / 2)
@@ -54,10 +54,10 @@ module _ (prims : Primitives) (map : Map) (F : fit map ≡ true) where
 
   succeeded : (v : Option ℕ) (life : LifeCycle) (l : Lent) → is_ready (powered_session map (end_of v life) l).phase ≡ true → Succeeded v life (end_of v life) l
   unfolding end_of life_cycle_end powered_session powered_copy is_ready
-  succeeded (some number) life l = λ e. absurd (true-not-false e refl)
-  succeeded none Invalid l = λ e. absurd (true-not-false e refl)
-  succeeded none (Valid state count) l =
-      if-both (λ (w : PowerUpEnd). is_ready (powered_session map w l).phase ≡ true → Succeeded none (Valid state count) w l)
+  succeeded (Some number) life l = λ e. absurd (true-not-false e refl)
+  succeeded None Invalid l = λ e. absurd (true-not-false e refl)
+  succeeded None (Valid state count) l =
+      if-both (λ (w : PowerUpEnd). is_ready (powered_session map w l).phase ≡ true → Succeeded None (Valid state count) w l)
       (eqb state 20) (fails reason.LifeCycleFailed (LifeCycleFailed (256 * count + state))) (succeeds state count) (λ t e. absurd (true-not-false e refl))
       (λ t e. record { checked = refl; decodes = refl; not_scrap = eqb-false _ _ t; copy = refl; sensed = refl })
 
@@ -132,25 +132,25 @@ module _ (prims : Primitives) (map : Map) (F : fit map ≡ true) where
       still = unfold act performed in (effect-ready _ m.session)
 
   -- a transition that leaves the phase Ready changes nothing
-  transition-held : (c₀ : List ℕ) (m : Machine) (target high low : ℕ) → Held c₀ m → Held c₀ (machine_after prims map (Transition target high low) m)
-  transition-held c₀ m target high low h = record { right = step-inputs prims map x m h.right; holds = go }
+  transition-held : (c₀ : List ℕ) (m : Machine) (target given : ℕ) → Held c₀ m → Held c₀ (machine_after prims map (Transition target given) m)
+  transition-held c₀ m target given h = record { right = step-inputs prims map x m h.right; holds = go }
     where
       x : Command
-      x = Transition target high low
+      x = Transition target given
 
       code : ℕ
       code = code_of (answer_to prims map x m)
 
       go : is_ready (machine_after prims map x m).session.phase ≡ true → Since prims map c₀ (machine_after prims map x m)
       go e =
-          by_cases (early (code_of (answer_to prims map (Transition target high low) m)))
-          (λ t. (let q = (transitions-refuse prims map m target high low).0 t in subst (Since prims map c₀) (sym q) (h.holds (rw q at e))))
-          (λ t. absurd (true-not-false e (ap (λ s. is_ready s.phase) ((transitions-refuse prims map m target high low).1 t).1 ∙ later-phase code)))
+          by_cases (early (code_of (answer_to prims map (Transition target given) m)))
+          (λ t. (let q = (transitions-refuse prims map m target given).0 t in subst (Since prims map c₀) (sym q) (h.holds (rw q at e))))
+          (λ t. absurd (true-not-false e (ap (λ s. is_ready s.phase) ((transitions-refuse prims map m target given).1 t).1 ∙ later-phase code)))
 
   step-held : (c₀ : List ℕ) (x : Command) (m : Machine) → not_power_up x → Held c₀ m → Held c₀ (machine_after prims map x m)
   step-held c₀ =
       by-class (λ (x : Command). (m : Machine) → not_power_up x → Held c₀ m → Held c₀ (machine_after prims map x m)) (λ m u h. absurd u)
-      (λ target high low m u h. transition-held c₀ m target high low h) (λ x e m u h. acts-held c₀ x m u e h)
+      (λ target given m u h. transition-held c₀ m target given h) (λ x e m u h. acts-held c₀ x m u e h)
 
   pub after-held : (c₀ : List ℕ) (l : List Command) (m : Machine) → NoPowerUp l → Held c₀ m → Held c₀ (after prims map l m)
   unfolding after
@@ -175,7 +175,7 @@ module _ (prims : Primitives) (map : Map) (F : fit map ≡ true) where
   pub step-reached : (x : Command) (m : Machine) → Reached m → Reached (machine_after prims map x m)
   step-reached =
       by-class (λ (x : Command). (m : Machine) → Reached m → Reached (machine_after prims map x m)) (λ m h. first-reached m h.held.right)
-      (λ target high low m h. goes (Transition target high low) m tt h) (λ x e m h. goes x m (rw (e, not_power_up) tt) h)
+      (λ target given m h. goes (Transition target given) m tt h) (λ x e m h. goes x m (rw (e, not_power_up) tt) h)
     where
       goes : (x : Command) (m : Machine) → not_power_up x → Reached m → Reached (machine_after prims map x m)
       goes x m u h = record { found = h.found; held = step-held h.found x m u h.held }
@@ -205,8 +205,8 @@ module _ (prims : Primitives) (map : Map) (F : fit map ≡ true) where
   end-succeeds : (verdict : Option ℕ) (life : LifeCycle) (Q : PowerUpEnd → Type 0) → ((state count : ℕ) → Q (succeeds state count))
       → code_of (powered_answer (end_of verdict life)) ≡ 0x00 → Q (end_of verdict life)
   unfolding end_of powered_answer
-  end-succeeds (some number) life Q h = λ e. absurd (omega arith)
-  end-succeeds none life Q h = life-succeeds life Q h
+  end-succeeds (Some number) life Q h = λ e. absurd (omega arith)
+  end-succeeds None life Q h = life-succeeds life Q h
 
   pub up-succeeds : (m : Machine) (Q : PowerUpEnd → Type 0) → ((state count : ℕ) → Q (succeeds state count))
       → code_of (power_up prims map m).result.answer ≡ 0x00

@@ -1,8 +1,8 @@
 -- One command and lists of commands, whatever the command. The idea: a step is a refusal that changes nothing, a power-up or a performed act.
+use Rattle.std.specs.Prelude.{Err, Option, Some, None}
 use mathlib.Core.Path.{◌≡◌, refl, sym, ◌∙◌, ap}
 use mathlib.Core.Bool.{true, not, false}
 use mathlib.Core.List.{List, [], ◌∷◌, ◌++◌}
-use mathlib.Core.Option.{Option, some, none}
 use Prim.Native.Nat.{ℕ, ◌/◌}
 use lib.Dec.{eqb}
 use lib.ListN.{length}
@@ -14,8 +14,7 @@ use Rattle.words.specs.Programming.{Kept}
 use Rattle.words.proofs.Programming.{kept_refl, kept_trans}
 use Rattle.partitions.specs.Map.{Map, limit}
 use Rattle.constants.specs.Constants.{constant_count, valid_constants}
-use Rattle.model.specs.declared.Answer.{Answer}
-use Rattle.model.specs.declared.Answer.TheVariants.{WrongLength, InvalidConstants, NotReady}
+use Rattle.model.specs.declared.Failure.TheVariants.{WrongLength, InvalidConstants, NotReady}
 use Rattle.model.specs.declared.Command.{Command}
 use Rattle.model.specs.declared.Command.TheVariants.{PowerUp}
 use Rattle.model.specs.Answers.{code_of}
@@ -28,6 +27,7 @@ use Rattle.model.specs.Claims.Terms.{ValidInputs}
 use Rattle.model.specs.Claims.Refusals.{judgement_code}
 use Rattle.model.specs.Session.{is_ready}
 use Rattle.model.specs.declared.Sizes.{Sizes}
+use Rattle.model.specs.declared.Failure.{Failure}
 use Rattle.model.proofs.Classes.{by-class}
 use Rattle.model.proofs.Acts.{perform_kept, perform-length}
 use Rattle.model.proofs.WordSizes.{perform-small, act-small}
@@ -39,7 +39,7 @@ unfolding performed effect_on
 same-machine m r e f = rw (e, f) refl
 
 -- nothing is refused where lengths are right and constants valid, and only there
-pub judgement-right : (map : Map) (sizes : Sizes) (k : List ℕ) → judgement map sizes k ≡ none
+pub judgement-right : (map : Map) (sizes : Sizes) (k : List ℕ) → judgement map sizes k ≡ None
     → (right_sizes map sizes (length k) ≡ true) × (valid_constants k ≡ true)
 unfolding judgement
 judgement-right map sizes k e =
@@ -69,7 +69,7 @@ module _ (prims : Primitives) (map : Map) where
   unfolding obey
   by-obeying {X} =
       by-class (λ (x : Command). (x ≡ PowerUp → X) → (((m : Machine) → obey prims map x m ≡ act prims map x m) → X) → X)
-      (λ f g. f refl) (λ target high low f g. g (λ m. refl)) (λ x e f g. g (λ m. rw (e, obey) refl))
+      (λ f g. f refl) (λ target given f g. g (λ m. refl)) (λ x e f g. g (λ m. rw (e, obey) refl))
 
   pub obeys-act : (x : Command) (m : Machine) → (x ≡ PowerUp → ⊥) → obey prims map x m ≡ act prims map x m
   obeys-act x m n = by-obeying x (λ e. absurd (n e)) (λ e. e m)
@@ -86,36 +86,36 @@ module _ (prims : Primitives) (map : Map) where
       → (right_lengths map m.lent ≡ true → valid_constants m.lent.constants ≡ true → Q (obey prims map x m)) → Q (step prims map x m)
   unfolding step judgement
   step-judged Q x m u v h =
-      let to : Option Answer → Type 0 = λ o. Q (elim o [ some answer ↦ unchanged answer m | none ↦ obey prims map x m ]) in
+      let to : Option Failure → Type 0 = λ o. Q (elim o [ Some failure ↦ unchanged failure m | None ↦ obey prims map x m ]) in
       if-both to (not (right_lengths map m.lent)) _ _ (λ e. u (not-true _ e))
       (λ e. if-both to (not (valid_constants m.lent.constants)) _ _ (λ f. v (not-false _ e) (not-true _ f)) (λ f. h (not-false _ e) (not-false _ f)))
 
-  pub accepted-step : (x : Command) (m : Machine) → judgement map (sizes_of m.lent) m.lent.constants ≡ none → step prims map x m ≡ obey prims map x m
+  pub accepted-step : (x : Command) (m : Machine) → judgement map (sizes_of m.lent) m.lent.constants ≡ None → step prims map x m ≡ obey prims map x m
   unfolding step
   accepted-step x m e = rw (e, step)
 
-  pub refused-step : (x : Command) (m : Machine) (answer : Answer) → judgement map (sizes_of m.lent) m.lent.constants ≡ some answer
-      → step prims map x m ≡ unchanged answer m
+  pub refused-step : (x : Command) (m : Machine) (failure : Failure) → judgement map (sizes_of m.lent) m.lent.constants ≡ Some failure
+      → step prims map x m ≡ unchanged failure m
   unfolding step
-  refused-step x m answer e = rw (e, step)
+  refused-step x m failure e = rw (e, step)
 
   -- two machines that are lent what is judged alike
   pub step_twice : (Q : Step → Step → Type 0) (x : Command) (m n : Machine)
       → judgement map (sizes_of n.lent) n.lent.constants ≡ judgement map (sizes_of m.lent) m.lent.constants
-      → ((answer : Answer) → Q (unchanged answer m) (unchanged answer n)) → Q (obey prims map x m) (obey prims map x n)
+      → ((failure : Failure) → Q (unchanged failure m) (unchanged failure n)) → Q (obey prims map x m) (obey prims map x n)
       → Q (step prims map x m) (step prims map x n)
   step_twice Q x m n e u h =
       by-option (judgement map (sizes_of m.lent) m.lent.constants) (λ f. rw (accepted-step x m f, accepted-step x n (e ∙ f)) h)
-      (λ answer f. rw (refused-step x m answer f, refused-step x n answer (e ∙ f)) (u answer))
+      (λ failure f. rw (refused-step x m failure f, refused-step x n failure (e ∙ f)) (u failure))
 
   -- what holds where what is lent is refused, with 0x10 or 0x12, and of the command obeyed
-  pub step_both : (Q : Step → Type 0) (x : Command) (m : Machine) → ((answer : Answer) → judgement_code (code_of answer) ≡ true → Q (unchanged answer m))
+  pub step_both : (Q : Step → Type 0) (x : Command) (m : Machine) → ((failure : Failure) → judgement_code (code_of (Err failure)) ≡ true → Q (unchanged failure m))
       → Q (obey prims map x m) → Q (step prims map x m)
   step_both Q x m u h = step-judged Q x m (λ e. u WrongLength refl) (λ e v. u InvalidConstants refl) (λ e v. h)
 
   -- what holds there, of a power-up and of an act holds of every command
   pub step-all : (Q : Step → Type 0) (x : Command) (m : Machine)
-      → ((answer : Answer) → judgement_code (code_of answer) ≡ true → Q (unchanged answer m)) → Q (power_up prims map m) → Q (act prims map x m)
+      → ((failure : Failure) → judgement_code (code_of (Err failure)) ≡ true → Q (unchanged failure m)) → Q (power_up prims map m) → Q (act prims map x m)
       → Q (step prims map x m)
   step-all Q x m u h f = step_both Q x m u (obey-both (λ s _. Q s) x m m h f)
 
@@ -141,7 +141,7 @@ module _ (prims : Primitives) (map : Map) where
   pub act-not-ready : (x : Command) (m : Machine) → is_ready m.session.phase ≡ false → after_act x m ≡ m
   unfolding act perform
   act-not-ready x m e =
-      rw (not-ready-act x m e, after_act) (same-machine m (record { cells = m.lent.cells; answer = NotReady; effect = no_effect; compared = [] }) refl refl)
+      rw (not-ready-act x m e, after_act) (same-machine m (record { cells = m.lent.cells; answer = Err NotReady; effect = no_effect; compared = [] }) refl refl)
 
   -- ---- bits stay
 
@@ -182,7 +182,7 @@ module _ (prims : Primitives) (map : Map) where
 
   powered-length : (w : PowerUpEnd) (l : Lent) → length (powered_copy prims map w l) ≡ limit map / 2
   unfolding powered_copy
-  powered-length (fails reason answer) l = length-listed _ 0 _
+  powered-length (fails reason failure) l = length-listed _ 0 _
   powered-length (succeeds state count) l = length-listed _ 0 _
 
   up-lengths : (m : Machine) → right_lengths map m.lent ≡ true → right_lengths map (powered_up m).lent ≡ true

@@ -1,4 +1,5 @@
 -- What direct access programs. The idea: a write and a digest command are a row of refusals that ends in one programming of a granule.
+use Rattle.std.specs.Prelude.{Ok}
 use mathlib.Core.Path.{◌≡◌, refl, sym, ap, ◌∙◌}
 use mathlib.Core.Bool.{true, not}
 use mathlib.Core.List.{List}
@@ -22,23 +23,21 @@ use Rattle.model.specs.Lent.{Machine, Primitives}
 use Rattle.model.specs.Commands.{direct_rule, digest_rule}
 use Rattle.model.specs.Claims.Terms.{stored_words}
 use Rattle.model.specs.Acts.{Performed, perform, program, Act, no_effect, say}
-use Rattle.model.specs.declared.Answer.TheVariants.{Done}
 use Rattle.model.specs.Step.{unchanged, obey, act, performed, answer_to, Step}
 use Rattle.model.specs.Answers.{code_of}
 use Rattle.model.proofs.Steps.{outcome, step_both}
 use Rattle.model.proofs.Forms.{Writes, Digesting, computed, Form, act-form, refuses-not-done}
 use Rattle.model.proofs.Acts.{after_both}
-use Rattle.words.specs.declared.Programmed.TheVariants as programmed
 
 -- what the act of a command that programs once comes to: it leaves every cell, or the words are programmed whole
 pub data Burnt (W : Type 0) (cells : List ℕ) (rule : Rule) (at : ℕ) (words : List ℕ) (value : ℕ) (r : Performed) : Type 0 where
   left : r.cells ≡ cells → Burnt W cells rule at words value r
-  burnt : W → program_answer rule cells at words ≡ programmed.Done → r.cells ≡ program_cells rule cells at words → r.answer ≡ Done value
+  burnt : W → program_answer rule cells at words ≡ Ok tt → r.cells ≡ program_cells rule cells at words → r.answer ≡ Ok value
       → Burnt W cells rule at words value r
 
 module _ (prims : Primitives) (map : Map) (m : Machine) where
   performs : {W : Type 0} {rule : Rule} {at value : ℕ} {words : List ℕ} → W
-      → Burnt W m.lent.cells rule at words value (perform (program rule at words no_effect (say (Done value) no_effect)) m.lent)
+      → Burnt W m.lent.cells rule at words value (perform (program rule at words no_effect (say (Ok value) no_effect)) m.lent)
   unfolding perform
   performs {W} {rule} {at} {value} {words} w =
       after_both (Burnt W m.lent.cells rule at words value) (program_answer rule m.lent.cells at words) _ _ (λ e. burnt w e refl refl)

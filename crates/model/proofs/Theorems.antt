@@ -99,15 +99,15 @@ burns prims C map F = record {
 
 pub transitions : (prims : Primitives) (map : Map) → fit map ≡ true → Transitions prims map
 transitions prims map F = record {
-  nothing = λ m target high low. (transitions-refuse prims map m target high low).0;
-  used = λ m target high low. (step-told prims map m target high low F).used;
-  spent = λ m target high low. (step-told prims map m target high low F).spent;
-  moved = λ m target high low. (step-told prims map m target high low F).moved;
-  stopped = λ m target high low. (step-told prims map m target high low F).stopped;
+  nothing = λ m target given. (transitions-refuse prims map m target given).0;
+  used = λ m target given. (step-told prims map m target given F).used;
+  spent = λ m target given. (step-told prims map m target given F).spent;
+  moved = λ m target given. (step-told prims map m target given F).moved;
+  stopped = λ m target given. (step-told prims map m target given F).stopped;
   exactly = fair-exact prims map;
-  records = λ m r e target high low. record-sevens prims map m target high low r e;
+  records = λ m r e target given. record-sevens prims map m target given r e;
   values = done-value prims map;
-  comparisons = λ m target high low. (let t = step-compared prims map m target high low in (t.differs, t.free, t.same, t.refused, t.other));
+  comparisons = λ m target given. (let t = step-compared prims map m target given in (t.differs, t.free, t.same, t.refused, t.other));
   no_comparison = no-comparison prims map;
   tokens = tokens-compared prims map;
   fair = λ m r l e. (reached-fair prims map F (after prims map (PowerUp ∷ l) m) (since-reached prims map F m r l) e, never-four prims map F m r l);

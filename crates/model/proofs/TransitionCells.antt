@@ -1,5 +1,6 @@
 -- Which cells a transition leaves, by its code. The idea: each end has its cells; counter words and state words adjoin, so that a move programs one run of
 -- words.
+use Rattle.std.specs.Prelude.{Ok}
 use mathlib.Core.Path.{◌≡◌, refl, sym, ap, ◌∙◌}
 use mathlib.Core.Bool.{true}
 use mathlib.Core.List.{List, [], ◌∷◌, ◌++◌}
@@ -16,9 +17,8 @@ use Rattle.partitions.specs.Map.{Map, number_of_kind}
 use Rattle.partitions.specs.Fitness.{fit}
 use Rattle.partitions.proofs.Map.{life-cycle-last, life-cycle-partition, partition-fit}
 use Rattle.life_cycle.proofs.Encoding.{counter-length, state-length}
-use Rattle.model.specs.declared.Answer.{Answer}
 use Rattle.model.specs.declared.Command.TheVariants.{Transition}
-use Rattle.model.specs.Answers.{code_of, value_of}
+use Rattle.model.specs.Answers.{Answer, code_of, value_of}
 use Rattle.model.specs.Lent.{Machine, Primitives, right_lengths}
 use Rattle.model.specs.Commands.{life_cycle_rule, counter_at, state_at}
 use Rattle.model.specs.Step.{machine_after, answer_to}
@@ -28,7 +28,6 @@ use Rattle.model.specs.Claims.Terms.{Put}
 use Rattle.model.proofs.Steps.{lengths-of}
 use Rattle.model.proofs.TransitionEnds.{Ending, unknown_target, used, counter_stops, not_in_table, token_not_locked, token_differs, state_stops, moved, stroke}
 use Rattle.model.proofs.TransitionEnds.{stroke-cells, move, Taken, early-no-stroke, step-ends}
-use Rattle.words.specs.declared.Programmed.TheVariants as programmed
 use Rattle.partitions.specs.declared.Kind.TheVariants as kind
 
 -- ---- words programmed in two pieces that adjoin
@@ -37,7 +36,7 @@ sets-append : (xs ys c : List ℕ) (at : ℕ) → sets (sets c at xs) (at + leng
 sets-append [] ys c at = let e : at + 0 ≡ at = omega arith in rw e
 sets-append (x ∷ xs) ys c at = let e : at + suc (length xs) ≡ suc at + length xs = omega arith in rw e (sets-append xs ys _ (suc at))
 
-pub put-words : (rule : Rule) (at : ℕ) (words c : List ℕ) → at + length words ≤ length c → program_answer rule c at words ≡ programmed.Done
+pub put-words : (rule : Rule) (at : ℕ) (words c : List ℕ) → at + length words ≤ length c → program_answer rule c at words ≡ Ok tt
     → Put rule at words c (program_cells rule c at words)
 put-words rule at words c inside e = record {
   taken = e;
@@ -46,12 +45,12 @@ put-words rule at words c inside e = record {
 }
 
 -- the second piece is asked of cells that the first did not change
-both-taken : (rule : Rule) (xs ys c : List ℕ) (at : ℕ) → program_answer rule c at xs ≡ programmed.Done
-    → program_answer rule (program_cells rule c at xs) (at + length xs) ys ≡ programmed.Done
-    → (program_answer rule c at (xs ++ ys) ≡ programmed.Done)
+both-taken : (rule : Rule) (xs ys c : List ℕ) (at : ℕ) → program_answer rule c at xs ≡ Ok tt
+    → program_answer rule (program_cells rule c at xs) (at + length xs) ys ≡ Ok tt
+    → (program_answer rule c at (xs ++ ys) ≡ Ok tt)
     × (program_cells rule (program_cells rule c at xs) (at + length xs) ys ≡ program_cells rule c at (xs ++ ys))
 both-taken rule xs ys c at e f =
-    let g : program_answer rule c at (xs ++ ys) ≡ programmed.Done =
+    let g : program_answer rule c at (xs ++ ys) ≡ Ok tt =
     append-next rule xs ys c at e ∙ sym (answer-same rule ys _ c (at + length xs) (λ j l u. program-elsewhere rule c xs at j (λ lo hi. omega arith))) ∙ f in (
       g,
       stored-done rule _ ys (at + length xs) f ∙ ap (λ (d : List ℕ). sets d (at + length xs) ys) (stored-done rule c xs at e)
@@ -93,7 +92,7 @@ module _ (prims : Primitives) (map : Map) (F : fit map ≡ true) (m : Machine) (
         (omega (arith, life-space, counter-length m.lent.constants (suc m.session.count))) t.1
 
     put-move : Taken prims map m target given
-        → program_answer life_cycle_rule (stroke-cells prims map m target given) (state_at map) (move prims map m target given) ≡ programmed.Done
+        → program_answer life_cycle_rule (stroke-cells prims map m target given) (state_at map) (move prims map m target given) ≡ Ok tt
         → Put life_cycle_rule (counter_at map) (move_words prims map m target) m.lent.cells
         (program_cells life_cycle_rule (stroke-cells prims map m target given) (state_at map) (move prims map m target given))
     unfolding state_at
@@ -158,9 +157,9 @@ module _ (prims : Primitives) (map : Map) (F : fit map ≡ true) (m : Machine) (
       stopped = λ q. absurd (omega arith);
     })
 
-module _ (prims : Primitives) (map : Map) (m : Machine) (target high low : ℕ) where
-  pub step-told : fit map ≡ true → CellsByCode prims map m target (high * 2 ^ 64 + low) (answer_to prims map (Transition target high low) m)
-      (machine_after prims map (Transition target high low) m).lent.cells
+module _ (prims : Primitives) (map : Map) (m : Machine) (target given : ℕ) where
+  pub step-told : fit map ≡ true → CellsByCode prims map m target given (answer_to prims map (Transition target given) m)
+      (machine_after prims map (Transition target given) m).lent.cells
   step-told F =
-      ⊎_elim (λ a. early-told prims map m target (high * 2 ^ 64 + low) _ _ a.0) (λ a. told prims map F m a.0 target (high * 2 ^ 64 + low) a.2)
-      (step-ends prims map m target high low)
+      ⊎_elim (λ a. early-told prims map m target given _ _ a.0) (λ a. told prims map F m a.0 target given a.2)
+      (step-ends prims map m target given)

@@ -1,5 +1,6 @@
 -- When a transition gives each code. The idea: where the words are taken, the table's entry and the token decide the code (`due`); each end has that code, or a
 -- 4.
+use Rattle.std.specs.Prelude.{Ok, Err}
 use Rattle.basics.specs.Choice.{when◌then◌else◌}
 use Rattle.model.specs.Claims.Terms.{ValidInputs, Says}
 use mathlib.Core.Path.{◌≡◌, refl, sym, ap, ◌∙◌}
@@ -22,10 +23,9 @@ use Rattle.life_cycle.specs.declared.Entry.TheVariants.{Allowed, Forbidden}
 use Rattle.life_cycle.specs.Words.{state_words}
 use Rattle.life_cycle.specs.Transitions.{table_entry}
 use Rattle.life_cycle.proofs.Encoding.{counter-length}
-use Rattle.model.specs.declared.Answer.{Answer}
-use Rattle.model.specs.declared.Answer.TheVariants.{NotReady}
+use Rattle.model.specs.declared.Failure.TheVariants.{NotReady}
 use Rattle.model.specs.declared.Command.TheVariants.{Transition}
-use Rattle.model.specs.Answers.{code_of, value_of}
+use Rattle.model.specs.Answers.{Answer, code_of, value_of}
 use Rattle.model.specs.Session.{sensed_at, is_ready}
 use Rattle.model.specs.Lent.{Machine, Primitives}
 use Rattle.model.specs.Acts.{Act, refuse, perform}
@@ -40,7 +40,6 @@ use Rattle.model.proofs.TransitionEnds.{ends, stroke-cells, move, Ending, unknow
 use Rattle.model.proofs.TransitionEnds.{state_stops, moved, InRange, step-ends}
 use Rattle.model.specs.declared.Phase.TheVariants as phase
 use Rattle.partitions.specs.declared.Kind.TheVariants as kind
-use Rattle.words.specs.declared.Programmed.TheVariants as programmed
 
 module _ (prims : Primitives) (map : Map) (m : Machine) (target given : ℕ) where
   -- the code that the table's entry comes to, where the words are taken
@@ -196,9 +195,9 @@ module _ (prims : Primitives) (map : Map) (m : Machine) (target given : ℕ) whe
   record StateRefused : Type 0 where
     same : due ≡ 0x00
     cell : ℕ
-    refused : program_answer life_cycle_rule m.lent.cells (state_at map) (state_words m.lent.constants target) ≡ programmed.Refused cell
+    refused : program_answer life_cycle_rule m.lent.cells (state_at map) (state_words m.lent.constants target) ≡ Err cell
 
-  state-refused : program_answer life_cycle_rule m.lent.cells (counter_at map) (stroke_words prims map m) ≡ programmed.Done → Stops prims map m target given
+  state-refused : program_answer life_cycle_rule m.lent.cells (counter_at map) (stroke_words prims map m) ≡ Ok tt → Stops prims map m target given
       → StateRefused
   unfolding same_code
   state-refused e (counter_refused h) = absurd (refused-not-done (sym h ∙ e))
@@ -249,23 +248,23 @@ module _ (prims : Primitives) (map : Map) (m : Machine) (target given : ℕ) whe
         ),
       )
 
-pub fair-exact : (prims : Primitives) (map : Map) (m : Machine) → Fair prims map m → (target high low : ℕ)
-    → Exact prims map m target (high * 2 ^ 64 + low) (code_of (answer_to prims map (Transition target high low) m))
-fair-exact prims map m f target high low =
-    ⊎_elim (λ a. absurd (a.1 f)) (λ a. exact prims map m target (high * 2 ^ 64 + low) f.count a.2) (step-ends prims map m target high low)
+pub fair-exact : (prims : Primitives) (map : Map) (m : Machine) → Fair prims map m → (target given : ℕ)
+    → Exact prims map m target given (code_of (answer_to prims map (Transition target given) m))
+fair-exact prims map m f target given =
+    ⊎_elim (λ a. absurd (a.1 f)) (λ a. exact prims map m target given f.count a.2) (step-ends prims map m target given)
 
-pub tokens-compared : (prims : Primitives) (map : Map) (m : Machine) (target high low : ℕ)
-    → let code = code_of (answer_to prims map (Transition target high low) m) in
-    (code ≡ 0x00 → Asked prims map m target (high * 2 ^ 64 + low) true) × (code ≡ 0x23 → Asked prims map m target (high * 2 ^ 64 + low) false)
+pub tokens-compared : (prims : Primitives) (map : Map) (m : Machine) (target given : ℕ)
+    → let code = code_of (answer_to prims map (Transition target given) m) in
+    (code ≡ 0x00 → Asked prims map m target given true) × (code ≡ 0x23 → Asked prims map m target given false)
 unfolding early
-tokens-compared prims map m target high low =
+tokens-compared prims map m target given =
     ⊎_elim (λ a. ((λ q. absurd (true-not-false a.0 (rw q))), λ q. absurd (true-not-false a.0 (rw q))))
-    (λ a. (let w = causes prims map m target (high * 2 ^ 64 + low) a.2 in (w.same, w.other))) (step-ends prims map m target high low)
+    (λ a. (let w = causes prims map m target given a.2 in (w.same, w.other))) (step-ends prims map m target given)
 
 -- ---- the record, and the value
 
-module _ (prims : Primitives) (map : Map) (m : Machine) (target high low : ℕ) where
-  ending-not-seven : {answer : Answer} {cells : List ℕ} → Ending prims map m target (high * 2 ^ 64 + low) answer cells → code_of answer ≡ 0x07 → ⊥
+module _ (prims : Primitives) (map : Map) (m : Machine) (target given : ℕ) where
+  ending-not-seven : {answer : Answer} {cells : List ℕ} → Ending prims map m target given answer cells → code_of answer ≡ 0x07 → ⊥
   ending-not-seven (unknown_target h e) = rw e (λ q. omega arith)
   ending-not-seven (used l h e f) = rw e (λ q. omega arith)
   ending-not-seven (counter_stops r h e f) = rw e (λ q. omega arith)
@@ -292,17 +291,17 @@ module _ (prims : Primitives) (map : Map) (m : Machine) (target high low : ℕ) 
   record-refused e = ((λ q. outside e), λ q. (refl, refl))
 
   pub record-sevens : ValidInputs map m → m.session.phase ≡ phase.Ready
-      → Says 0x07 0 (answer_to prims map (Transition target high low) m) ↔ ((20 < m.session.state) ⊎ (24 < m.session.count))
+      → Says 0x07 0 (answer_to prims map (Transition target given) m) ↔ ((20 < m.session.state) ⊎ (24 < m.session.count))
   unfolding obey act performed ready_act command_act transition_act is_ready
   record-sevens r e =
       let to : Act → Type 0 = λ x. Says 0x07 0 (perform x m.lent).answer ↔ ((20 < m.session.state) ⊎ (24 < m.session.count)) in
-      rw (step-obeys prims map (Transition target high low) m r, answer_to)
+      rw (step-obeys prims map (Transition target given) m r, answer_to)
       (if-both to (not (is_ready m.session.phase)) _ _ (λ t. absurd (true-not-false (ap is_ready e) (not-true _ t)))
       λ t. if-both to (not (leb m.session.state 20 && leb m.session.count 24)) _ _
       (λ u. record-refused (not-true _ u))
-      λ u. ((λ q. absurd (ending-not-seven (ends prims map m target (high * 2 ^ 64 + low)) q.0)), λ q. absurd (not-inside q (not-false _ u))))
+      λ u. ((λ q. absurd (ending-not-seven (ends prims map m target given) q.0)), λ q. absurd (not-inside q (not-false _ u))))
 
-  ending-value : {answer : Answer} {cells : List ℕ} → Ending prims map m target (high * 2 ^ 64 + low) answer cells → code_of answer ≡ 0x00 → value_of answer ≡ 0
+  ending-value : {answer : Answer} {cells : List ℕ} → Ending prims map m target given answer cells → code_of answer ≡ 0x00 → value_of answer ≡ 0
   ending-value (unknown_target h e) = rw e (λ q. refl)
   ending-value (used l h e f) = rw e (λ q. refl)
   ending-value (counter_stops r h e f) = rw e (λ q. absurd (omega arith))
@@ -312,6 +311,6 @@ module _ (prims : Primitives) (map : Map) (m : Machine) (target high low : ℕ) 
   ending-value (state_stops t a h e f) = rw e (λ q. absurd (omega arith))
   ending-value (moved t h g e f) = rw e (λ q. refl)
 
-  pub done-value : code_of (answer_to prims map (Transition target high low) m) ≡ 0x00 → value_of (answer_to prims map (Transition target high low) m) ≡ 0
+  pub done-value : code_of (answer_to prims map (Transition target given) m) ≡ 0x00 → value_of (answer_to prims map (Transition target given) m) ≡ 0
   unfolding early
-  done-value q = ⊎_elim (λ a. absurd (true-not-false a.0 (rw q))) (λ a. ending-value a.2 q) (step-ends prims map m target high low)
+  done-value q = ⊎_elim (λ a. absurd (true-not-false a.0 (rw q))) (λ a. ending-value a.2 q) (step-ends prims map m target given)

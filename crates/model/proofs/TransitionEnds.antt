@@ -1,5 +1,6 @@
 -- The ends of a transition. The idea: past the early refusals it has eight ends, each with what led to it and the cells that it leaves; whatever is claimed of
 -- its answers is read off the list of ends.
+use Rattle.std.specs.Prelude.{Ok, Err}
 use mathlib.Core.Path.{◌≡◌, refl, sym}
 use mathlib.Core.Bool.{Bool, true, false, not}
 use mathlib.Core.List.{List}
@@ -18,10 +19,9 @@ use Rattle.life_cycle.specs.declared.Entry.TheVariants.{Allowed, Forbidden}
 use Rattle.life_cycle.specs.Words.{state_words}
 use Rattle.constants.specs.Constants.{raw_unlock_hash}
 use Rattle.life_cycle.specs.Transitions.{table_entry}
-use Rattle.model.specs.declared.Answer.{Answer}
-use Rattle.model.specs.declared.Answer.TheVariants.{Done, NotBlank, NotReady, UnknownTarget, StrokesUsed, NotInTable, TokenNotLocked, TokenDiffers}
+use Rattle.model.specs.declared.Failure.TheVariants.{NotBlank, NotReady, UnknownTarget, StrokesUsed, NotInTable, TokenNotLocked, TokenDiffers}
 use Rattle.model.specs.declared.Command.TheVariants.{Transition}
-use Rattle.model.specs.Answers.{code_of}
+use Rattle.model.specs.Answers.{Answer, code_of}
 use Rattle.model.specs.Session.{is_ready, sensed_locked, sensed_at}
 use Rattle.model.specs.Lent.{Machine, Primitives, right_lengths, Lent, with_cells}
 use Rattle.model.specs.Acts.{Act, say, program, Performed, perform, with_comparison, no_effect, to_inert, to_dead}
@@ -33,7 +33,6 @@ use Rattle.model.specs.Claims.Refusals.{early}
 use Rattle.model.specs.Claims.Transitions.{Stored, Compared, Asked, stroke_only, test_unlock, test_exit, rma, stroke_words, Fair, Unlocked}
 use Rattle.model.proofs.Acts.{after_both}
 use Rattle.model.proofs.Steps.{outcome, step-judged}
-use Rattle.words.specs.declared.Programmed.TheVariants as programmed
 
 -- a comparison, as numbers that are equal or not
 agreed : (x y : ℕ) (same : Bool) → eqb y x ≡ same → Agrees x y same
@@ -69,20 +68,20 @@ module _ (prims : Primitives) (map : Map) (m : Machine) (target given : ℕ) whe
   InRange = (target ≤ 20) × (m.session.count < 24)
 
   abbrev pub Taken : Type 0
-  Taken = InRange × (program_answer life_cycle_rule cells₀ (counter_at map) stroke ≡ programmed.Done)
+  Taken = InRange × (program_answer life_cycle_rule cells₀ (counter_at map) stroke ≡ Ok tt)
 
   pub data Ending (answer : Answer) (cells : List ℕ) : Type 0 where
-    unknown_target : 20 < target → answer ≡ UnknownTarget → Ending answer cells
-    used : target ≤ 20 → 24 ≤ m.session.count → answer ≡ StrokesUsed → cells ≡ cells₀ → Ending answer cells
-    counter_stops : {cell : ℕ} → InRange → program_answer life_cycle_rule cells₀ (counter_at map) stroke ≡ programmed.Refused cell → answer ≡ NotBlank cell
+    unknown_target : 20 < target → answer ≡ Err UnknownTarget → Ending answer cells
+    used : target ≤ 20 → 24 ≤ m.session.count → answer ≡ Err StrokesUsed → cells ≡ cells₀ → Ending answer cells
+    counter_stops : {cell : ℕ} → InRange → program_answer life_cycle_rule cells₀ (counter_at map) stroke ≡ Err cell → answer ≡ Err (NotBlank cell)
         → cells ≡ cells₀ → Ending answer cells
-    not_in_table : Taken → table_entry m.session.state target ≡ Forbidden → answer ≡ NotInTable → cells ≡ stroke-cells → Ending answer cells
-    token_not_locked : Taken → Unlocked prims map m target → answer ≡ TokenNotLocked → cells ≡ stroke-cells → Ending answer cells
-    token_differs : Taken → Asked prims map m target given false → answer ≡ TokenDiffers → cells ≡ stroke-cells → Ending answer cells
+    not_in_table : Taken → table_entry m.session.state target ≡ Forbidden → answer ≡ Err NotInTable → cells ≡ stroke-cells → Ending answer cells
+    token_not_locked : Taken → Unlocked prims map m target → answer ≡ Err TokenNotLocked → cells ≡ stroke-cells → Ending answer cells
+    token_differs : Taken → Asked prims map m target given false → answer ≡ Err TokenDiffers → cells ≡ stroke-cells → Ending answer cells
     state_stops : {cell : ℕ} → Taken → Asked prims map m target given true
-        → program_answer life_cycle_rule stroke-cells (state_at map) move ≡ programmed.Refused cell
-        → answer ≡ NotBlank cell → cells ≡ stroke-cells → Ending answer cells
-    moved : Taken → Asked prims map m target given true → program_answer life_cycle_rule stroke-cells (state_at map) move ≡ programmed.Done → answer ≡ Done 0
+        → program_answer life_cycle_rule stroke-cells (state_at map) move ≡ Err cell
+        → answer ≡ Err (NotBlank cell) → cells ≡ stroke-cells → Ending answer cells
+    moved : Taken → Asked prims map m target given true → program_answer life_cycle_rule stroke-cells (state_at map) move ≡ Ok tt → answer ≡ Ok 0
         → cells ≡ program_cells life_cycle_rule stroke-cells (state_at map) move → Ending answer cells
 
   abbrev Ends : Performed → Type 0
@@ -137,8 +136,8 @@ module _ (prims : Primitives) (map : Map) (m : Machine) (target given : ℕ) whe
 
   -- once the record is judged
   pub ends : Ends (perform
-      (when not (leb target 20) then say UnknownTarget no_effect
-      else when not (ltb m.session.count 24) then say StrokesUsed to_inert
+      (when not (leb target 20) then say (Err UnknownTarget) no_effect
+      else when not (ltb m.session.count 24) then say (Err StrokesUsed) to_inert
       else spending) m.lent)
   ends =
       let to : Act → Type 0 = λ a. Ends (perform a m.lent) in
@@ -147,33 +146,29 @@ module _ (prims : Primitives) (map : Map) (m : Machine) (target given : ℕ) whe
       λ u. spends (leb-true target 20 (not-false _ t), ltb-true m.session.count 24 (not-false _ u))
 
   -- the whole act: the phase, then the record, then these
-  pub act-ends : (high low : ℕ) → given ≡ high * 2 ^ 64 + low
-      → (((outcome prims map (Transition target high low) m).answer ≡ NotReady) × (Fair prims map m → ⊥))
-      ⊎ ((is_ready m.session.phase ≡ true) × Ends (outcome prims map (Transition target high low) m))
+  pub act-ends : (((outcome prims map (Transition target given) m).answer ≡ Err NotReady) × (Fair prims map m → ⊥))
+      ⊎ ((is_ready m.session.phase ≡ true) × Ends (outcome prims map (Transition target given) m))
   unfolding ready_act command_act transition_act
-  act-ends high low e =
-      let to : Act → Type 0 = λ a. (((perform a m.lent).answer ≡ NotReady) × (Fair prims map m → ⊥))
+  act-ends =
+      let to : Act → Type 0 = λ a. (((perform a m.lent).answer ≡ Err NotReady) × (Fair prims map m → ⊥))
       ⊎ ((is_ready m.session.phase ≡ true) × Ends (perform a m.lent)) in
-      rw (← e) (if-both to _ _ _ (λ t. inl (unfold perform in (refl, λ f. true-not-false f.ready (not-true _ t))))
+      if-both to _ _ _ (λ t. inl (unfold perform in (refl, λ f. true-not-false f.ready (not-true _ t))))
       λ t. if-both to _ _ _ (λ u. inl
       (unfold perform in (refl, λ f. true-not-false (and_both (leb m.session.state 20) _ (le-leb _ _ f.state) (le-leb _ _ f.count)) (not-true _ u))))
-      λ u. inr (not-false _ t, ends))
+      λ u. inr (not-false _ t, ends)
 
 -- ---- the whole command
 
-module _ (prims : Primitives) (map : Map) (m : Machine) (target high low : ℕ) where
-  abbrev token : ℕ
-  token = high * 2 ^ 64 + low
-
+module _ (prims : Primitives) (map : Map) (m : Machine) (target given : ℕ) where
   -- it is refused early, by a chip that is not fair, or it comes to one of the ends
   abbrev pub Ended : Answer → List ℕ → Type 0
   Ended answer cells =
       ((early (code_of answer) ≡ true) × (Fair prims map m → ⊥))
-      ⊎ ((right_lengths map m.lent ≡ true) × (is_ready m.session.phase ≡ true) × Ending prims map m target token answer cells)
+      ⊎ ((right_lengths map m.lent ≡ true) × (is_ready m.session.phase ≡ true) × Ending prims map m target given answer cells)
 
-  pub step-ends : Ended (answer_to prims map (Transition target high low) m) (machine_after prims map (Transition target high low) m).lent.cells
+  pub step-ends : Ended (answer_to prims map (Transition target given) m) (machine_after prims map (Transition target given) m).lent.cells
   unfolding unchanged obey act performed early
   step-ends =
-      step-judged prims map (λ (s : Step). Ended s.result.answer s.result.machine.lent.cells) (Transition target high low) m
+      step-judged prims map (λ (s : Step). Ended s.result.answer s.result.machine.lent.cells) (Transition target given) m
       (λ e. inl (refl, λ f. true-not-false f.lengths e)) (λ e v. inl (refl, λ f. true-not-false f.valid v))
-      (λ e v. ⊎_elim (λ a. inl (rw a.0 refl, a.1)) (λ a. inr (e, a.0, a.1)) (act-ends prims map m target token high low refl))
+      (λ e v. ⊎_elim (λ a. inl (rw a.0 refl, a.1)) (λ a. inr (e, a.0, a.1)) (act-ends prims map m target given))

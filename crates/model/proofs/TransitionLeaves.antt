@@ -1,8 +1,8 @@
 -- What a transition leaves, from a power-up on. The idea: what the words decode to is known from its code, and nothing happens until the next power-up, which
 -- decodes them.
+use Rattle.std.specs.Prelude.{None}
 use mathlib.Core.Path.{◌≡◌, refl, ap, ◌∙◌}
 use mathlib.Core.Bool.{true, false}
-use mathlib.Core.Option.{none}
 use Prim.Native.Nat.{ℕ, ◌+◌, ◌*◌, suc}
 use lib.Dec.{eqb}
 use Rattle.basics.specs.Choice.{when◌then◌else◌}
@@ -30,14 +30,14 @@ use Rattle.model.proofs.TransitionLife.{LifeAfter, kept, spent, went, transition
 
 module _ (prims : Primitives) (map : Map) (F : fit map ≡ true) where
   -- a power-up that no digest check fails answers what is decoded
-  pub up-says : (m : Machine) → ValidInputs map m → (state count : ℕ) → life_cycle_in map m.lent ≡ Valid state count → verdict_of prims map m.lent ≡ none
+  pub up-says : (m : Machine) → ValidInputs map m → (state count : ℕ) → life_cycle_in map m.lent ≡ Valid state count → verdict_of prims map m.lent ≡ None
       → Says (when eqb state 20 then 0x07 else 0x00) (256 * count + state) (answer_to prims map PowerUp m)
   unfolding power_up power_up_end end_of life_cycle_end powered_answer when◌then◌else◌
   up-says m r state count e v = rw (step-up prims map m r, answer_to, v, e) (by_cases (eqb state 20) (λ t. rw t (refl, refl)) (λ t. rw t (refl, refl)))
 
-  module _ (m : Machine) (h : Reached prims map F m) (target high low : ℕ) where
+  module _ (m : Machine) (h : Reached prims map F m) (target given : ℕ) where
     abbrev x : Command
-    x = Transition target high low
+    x = Transition target given
 
     abbrev code : ℕ
     code = code_of (answer_to prims map x m)
@@ -46,7 +46,7 @@ module _ (prims : Primitives) (map : Map) (F : fit map ≡ true) where
     m₁ = machine_after prims map x m
 
     stopped : early code ≡ false → is_ready m₁.session.phase ≡ false
-    stopped e = ap (λ s. is_ready s.phase) ((transitions-refuse prims map m target high low).1 e).1 ∙ later-phase code
+    stopped e = ap (λ s. is_ready s.phase) ((transitions-refuse prims map m target given).1 e).1 ∙ later-phase code
 
     leave : (state count : ℕ) → early code ≡ false → life_cycle_in map m₁.lent ≡ Valid state count → Leaves prims map state count m₁
     leave state count e d = record {
@@ -63,13 +63,13 @@ module _ (prims : Primitives) (map : Map) (F : fit map ≡ true) where
 
     pub leaves : (stroke_only code ≡ true → Leaves prims map m.session.state (suc m.session.count) m₁)
         × (code ≡ 0x00 → Leaves prims map target (suc m.session.count) m₁)
-    leaves = go (transition-life prims map F m h.held.right (recorded prims map F m h) target high low)
+    leaves = go (transition-life prims map F m h.held.right (recorded prims map F m h) target given)
       where
         zero-no-stroke : {c : ℕ} → stroke_only c ≡ true → c ≡ 0x00 → ⊥
         zero-no-stroke s z = unfold stroke_only in (true-not-false s (rw z))
 
-        go : LifeAfter prims map m target (code_of (answer_to prims map (Transition target high low) m))
-            (life_cycle_in map (machine_after prims map (Transition target high low) m).lent)
+        go : LifeAfter prims map m target (code_of (answer_to prims map (Transition target given) m))
+            (life_cycle_in map (machine_after prims map (Transition target given) m).lent)
             → (stroke_only code ≡ true → Leaves prims map m.session.state (suc m.session.count) m₁)
             × (code ≡ 0x00 → Leaves prims map target (suc m.session.count) m₁)
         go (kept s z f e) = ((λ q. absurd (true-not-false q s)), λ q. absurd (z q))

@@ -18,14 +18,13 @@ use Rattle.life_cycle.specs.declared.Entry.TheVariants.{Allowed}
 use Rattle.life_cycle.specs.Transitions.{table_entry}
 use Rattle.model.specs.declared.Command.{Command}
 use Rattle.model.specs.declared.Command.TheVariants.{Transition}
-use Rattle.model.specs.Answers.{code_of}
+use Rattle.model.specs.Answers.{Answer, code_of}
 use Rattle.model.specs.Session.{is_ready}
 use Rattle.model.specs.Lent.{Machine, Primitives, with_cells}
 use Rattle.model.specs.PowerUp.{life_cycle_in}
 use Rattle.model.specs.Step.{machine_after, answer_to}
 use Rattle.model.specs.Claims.Terms.{ValidInputs}
 use Rattle.model.specs.Claims.Refusals.{early}
-use Rattle.model.specs.declared.Answer.{Answer}
 use Rattle.model.specs.Claims.Transitions.{stroke_only}
 use Rattle.model.proofs.Steps.{step-constants}
 use Rattle.model.proofs.Refusals.{transitions-refuse}
@@ -56,9 +55,9 @@ life-not-four (went z v a e) = λ q. omega arith
 
 module _ (prims : Primitives) (map : Map) (F : fit map ≡ true) (m : Machine) (r : ValidInputs map m)
     (live : is_ready m.session.phase ≡ true → Recorded prims map m)
-    (target high low : ℕ) where
+    (target given : ℕ) where
   abbrev x : Command
-  x = Transition target high low
+  x = Transition target given
 
   abbrev m₁ : Machine
   m₁ = machine_after prims map x m
@@ -69,7 +68,7 @@ module _ (prims : Primitives) (map : Map) (F : fit map ≡ true) (m : Machine) (
       LifeAfter prims map m target (code_of answer) (life_cycle_in map (with_cells cells m.lent))
 
   ended : is_ready m.session.phase ≡ true → {answer : Answer} {cells : List ℕ} → early (code_of answer) ≡ false
-      → Ending prims map m target (high * 2 ^ 64 + low) answer cells → After answer cells
+      → Ending prims map m target given answer cells → After answer cells
   unfolding stroke_only early
   ended y n (unknown_target h e) = absurd (true-not-false (rw e refl) n)
   ended y n (used l h e f) = rw (e, f) (kept refl (eqb-false _ _ refl) (eqb-false _ _ refl) refl)
@@ -86,12 +85,12 @@ module _ (prims : Primitives) (map : Map) (F : fit map ≡ true) (m : Machine) (
   refused : early (code_of (answer_to prims map x m)) ≡ true → LifeAfter prims map m target (code_of (answer_to prims map x m)) (life_cycle_in map m₁.lent)
   unfolding early stroke_only
   refused e =
-      kept (not-passed _ (λ q. early-no-stroke (code_of (answer_to prims map (Transition target high low) m)) e q)) (λ q. true-not-false e (rw q))
+      kept (not-passed _ (λ q. early-no-stroke (code_of (answer_to prims map (Transition target given) m)) e q)) (λ q. true-not-false e (rw q))
       (λ q. true-not-false e (rw q))
-      (ap (λ (k : Machine). life_cycle_in map k.lent) ((transitions-refuse prims map m target high low).0 e))
+      (ap (λ (k : Machine). life_cycle_in map k.lent) ((transitions-refuse prims map m target given).0 e))
 
   pub transition-life : LifeAfter prims map m target (code_of (answer_to prims map x m)) (life_cycle_in map m₁.lent)
   transition-life =
       by_cases (early (code_of (answer_to prims map x m))) refused
       (λ n. rw (here m₁.lent.cells refl)
-      (⊎_elim (λ a. absurd (true-not-false a.0 n)) (λ a. ended a.1 n a.2) (step-ends prims map m target high low)))
+      (⊎_elim (λ a. absurd (true-not-false a.0 n)) (λ a. ended a.1 n a.2) (step-ends prims map m target given)))

@@ -1,5 +1,6 @@
 -- What holds of a transition whose stroke is spent. The idea: its acts end in a moved state or in three refusals, behind comparisons; so a few cases serve
 -- every property of an act, and with it every property of an answer and its effect.
+use Rattle.std.specs.Prelude.{Ok, Err}
 use mathlib.Core.Bool.{Bool}
 use Prim.Native.Nat.{ℕ}
 use Rattle.basics.proofs.Choice.{if-both}
@@ -8,8 +9,8 @@ use Rattle.life_cycle.specs.declared.Token.{Token}
 use Rattle.life_cycle.specs.declared.Token.TheVariants.{Nothing, RawUnlock, TestUnlock, TestExit, Rma}
 use Rattle.life_cycle.specs.declared.Entry.{Entry}
 use Rattle.life_cycle.specs.declared.Entry.TheVariants.{Allowed, Forbidden}
-use Rattle.model.specs.declared.Answer.{Answer}
-use Rattle.model.specs.declared.Answer.TheVariants.{Done, NotBlank, NotInTable, TokenNotLocked, TokenDiffers}
+use Rattle.model.specs.declared.Failure.TheVariants.{NotBlank, NotInTable, TokenNotLocked, TokenDiffers}
+use Rattle.model.specs.Answers.{Answer}
 use Rattle.model.specs.Lent.{Lent, Machine, Primitives}
 use Rattle.model.specs.Acts.{Effect, to_inert, to_dead, Act, say, compare}
 use Rattle.model.specs.Commands.{Authorization, locked_token, token_authorization, authorization, move_act, authorized_act}
@@ -19,9 +20,9 @@ module _ (prims : Primitives) (map : Map) (m : Machine) (target : ℕ) where
   -- the ends have the property, and a comparison of two acts that have it
   pub record EndCases (Q : Act → Type 0) : Type 0 where
     pub moved : Q (move_act prims map m target)
-    pub forbidden : Q (say NotInTable to_inert)
-    pub token_unlocked : Q (say TokenNotLocked to_inert)
-    pub differs : Q (say TokenDiffers to_inert)
+    pub forbidden : Q (say (Err NotInTable) to_inert)
+    pub token_unlocked : Q (say (Err TokenNotLocked) to_inert)
+    pub differs : Q (say (Err TokenDiffers) to_inert)
     pub compared : (test : Lent → Bool) (same other : Act) → Q same → Q other → Q (compare test same other)
 
   module _ (Q : Act → Type 0) (end_cases : EndCases Q) where
@@ -47,11 +48,11 @@ module _ (prims : Primitives) (map : Map) (m : Machine) (target : ℕ) where
 
 -- the five answers, each with its effect, have the property
 pub record Ends (T : Answer → Effect → Type 0) : Type 0 where
-  pub not-blank : (cell : ℕ) → T (NotBlank cell) to_dead
-  pub moved : T (Done 0) to_inert
-  pub forbidden : T NotInTable to_inert
-  pub token_unlocked : T TokenNotLocked to_inert
-  pub differs : T TokenDiffers to_inert
+  pub not-blank : (cell : ℕ) → T (Err (NotBlank cell)) to_dead
+  pub moved : T (Ok 0) to_inert
+  pub forbidden : T (Err NotInTable) to_inert
+  pub token_unlocked : T (Err TokenNotLocked) to_inert
+  pub differs : T (Err TokenDiffers) to_inert
 
 pub entry_gives : {T : Answer → Effect → Type 0} → Ends T → (prims : Primitives) (map : Map) (m : Machine) (entry : Entry) (target given : ℕ)
     → Gives T (authorized_act prims map m (authorization prims map m.session entry given) target)

@@ -83,6 +83,6 @@ pub act-small : (prims : Primitives) (map : Map) (m : Machine) (x : Command) →
 act-small prims map m x K = act-within prims map m (record {
   write = λ a value e w. words_small _ _;
   digest = λ a e w. words_small _ _;
-  counter = λ target high low e t. counter-small m.lent.constants K _;
-  state = λ target high low e t. state-small m.lent.constants K target;
+  counter = λ target given e t. counter-small m.lent.constants K _;
+  state = λ target given e t. state-small m.lent.constants K target;
 })

@@ -1,5 +1,6 @@
 -- When a write answers 5, 4 and 0. The idea: the guards of its act are the reasons of a 5, one by one; past them the granule decides, and its words are all
 -- taken or one of them is the lowest that refuses.
+use Rattle.std.specs.Prelude.{Ok, Err, Result, ⊤}
 use lib.ListN.{length}
 use Rattle.partitions.proofs.Granules.{granule-within}
 use Rattle.words.proofs.Words.{length-words}
@@ -13,18 +14,16 @@ use native.Mathlib.Omega.{arith}
 use lib.Dec.{leb}
 use borrow.Author.Tests.{eq-eqb, leb-true, le-leb, not-true}
 use Rattle.basics.proofs.Choice.{true-not-false, and_left, and_right, and_both, if-both, or-either}
-use Rattle.words.specs.declared.Programmed.{Programmed}
 use Rattle.words.specs.Programming.{program_answer, Lowest}
 use Rattle.words.proofs.Programming.{refused-not-done, refused-lowest, lowest-refused}
 use Rattle.partitions.specs.Fitness.{fit}
 use Rattle.partitions.proofs.KindRights.{life-cycle-only}
 use Rattle.partitions.proofs.Map.{inside}
 use Rattle.partitions.specs.Map.{Map, rights_of, number_at, partition_at, limit, in_digest, first_word}
-use Rattle.model.specs.declared.Answer.{Answer}
-use Rattle.model.specs.declared.Answer.TheVariants.{Done, NotBlank, Denied}
+use Rattle.model.specs.declared.Failure.TheVariants.{NotBlank, Denied}
 use Rattle.model.specs.declared.Command.{Command}
 use Rattle.model.specs.declared.Command.TheVariants.{Write, PowerUp}
-use Rattle.model.specs.Answers.{code_of}
+use Rattle.model.specs.Answers.{Answer, code_of}
 use Rattle.model.specs.Session.{is_ready, sensed_locked, locking}
 use Rattle.model.specs.Lent.{Machine, Primitives}
 use Rattle.model.specs.Acts.{Act, perform, Performed}
@@ -42,11 +41,10 @@ use Rattle.model.proofs.Writes.{write-takes}
 use Rattle.model.proofs.TransitionCells.{put-words}
 use Rattle.model.proofs.Guards.{WriteGuards, not-locked, allowed-below, write-guards, write-open, allowed-there}
 use Rattle.model.proofs.Forms.{Form, act-form, refuses-not-done}
-use Rattle.words.specs.declared.Programmed.TheVariants as programmed
 use Rattle.model.specs.declared.Phase.TheVariants as phase
 
 module _ (prims : Primitives) (map : Map) (m : Machine) (a value : ℕ) where
-  abbrev Takes : Programmed → Type 0
+  abbrev Takes : Result ⊤ ℕ → Type 0
   Takes result =
       program_answer (direct_rule (partition_at map a) a) m.lent.cells (first_word (partition_at map a) a) (stored_words prims map m.lent.constants a value)
       ≡ result
@@ -59,9 +57,9 @@ module _ (prims : Primitives) (map : Map) (m : Machine) (a value : ℕ) where
     guards : WriteGuards (partition_at map a) a (sensed_locked m.session (number_at map a))
 
   data WriteEnd (answer : Answer) : Type 0 where
-    denied : WriteDenied prims map m a → answer ≡ Denied → WriteEnd answer
-    stops : {i : ℕ} → Passed → Takes (programmed.Refused i) → answer ≡ NotBlank i → WriteEnd answer
-    done : Passed → Takes programmed.Done → answer ≡ Done 0 → WriteEnd answer
+    denied : WriteDenied prims map m a → answer ≡ Err Denied → WriteEnd answer
+    stops : {i : ℕ} → Passed → Takes (Err i) → answer ≡ Err (NotBlank i) → WriteEnd answer
+    done : Passed → Takes (Ok tt) → answer ≡ Ok 0 → WriteEnd answer
 
   -- there is then no reason for a 5
   not-denied : Passed → WriteDenied prims map m a → ⊥
@@ -103,7 +101,7 @@ module _ (prims : Primitives) (map : Map) (m : Machine) (a value : ℕ) where
       let words = stored_words prims map m.lent.constants a value in
       (Says 0x05 0 answer ↔ WriteDenied prims map m a)
       × ((i : ℕ) → Says 0x04 i answer ↔ ((WriteDenied prims map m a → ⊥) × Lowest (direct_rule p a) m.lent.cells (first_word p a) words i))
-      × (Says 0x00 0 answer ↔ ((WriteDenied prims map m a → ⊥) × Takes programmed.Done))
+      × (Says 0x00 0 answer ↔ ((WriteDenied prims map m a → ⊥) × Takes (Ok tt)))
 
   exact : {answer : Answer} → WriteEnd answer → Exact answer
   exact (denied d e) = rw e (
@@ -113,13 +111,13 @@ module _ (prims : Primitives) (map : Map) (m : Machine) (a value : ℕ) where
   )
   exact (stops {i = k} p t e) = rw e (
     ((λ q. absurd (omega (arith, q.0))), λ q. absurd (not-denied p q)),
-    (λ i. ((λ q. (not-denied p, refused-lowest _ _ _ _ i (t ∙ ap programmed.Refused q.1))), λ q. (refl, same_word i q.1))),
+    (λ i. ((λ q. (not-denied p, refused-lowest _ _ _ _ i (t ∙ ap Err q.1))), λ q. (refl, same_word i q.1))),
     ((λ q. absurd (omega (arith, q.0))), λ q. absurd (refused-not-done (sym t ∙ q.1))),
   )
     where
       same_word : (i : ℕ) → Lowest (direct_rule (partition_at map a) a) m.lent.cells (first_word (partition_at map a) a)
           (stored_words prims map m.lent.constants a value) i → k ≡ i
-      same_word i q = let z : programmed.Refused k ≡ programmed.Refused i = sym t ∙ lowest-refused _ _ _ _ i q in cc
+      same_word i q = let z : Err k ≡ Err i = sym t ∙ lowest-refused _ _ _ _ i q in cc
   exact (done p t e) = rw e (
     ((λ q. absurd (omega (arith, q.0))), λ q. absurd (not-denied p q)),
     (λ i. ((λ q. absurd (omega (arith, q.0))), λ q. absurd (refused-not-done (sym (lowest-refused _ _ _ _ i q.1) ∙ t)))),

@@ -1,5 +1,6 @@
 -- A write that the rules allow takes effect and reads back. The idea: on a chip that is Ready since a power-up the guards pass and the granule is programmed;
 -- only a write to that granule that answers 0 changes its words, whatever else comes; and a read of them unscrambles what was scrambled.
+use Rattle.std.specs.Prelude.{Ok}
 use mathlib.Core.Path.{◌≡◌, refl, sym, ap, ap₂, ◌∙◌}
 use mathlib.Core.Bool.{true, false, not, ◌&&◌}
 use mathlib.Core.List.{List, [], ◌∷◌}
@@ -23,7 +24,6 @@ use Rattle.partitions.proofs.KindRights.{soft-plain}
 use Rattle.partitions.proofs.Map.{inside}
 use Rattle.partitions.proofs.Granules.{OneGranule, scrambled-words, granule-inside, granule-within, word-inside, word_number, shared-word}
 use Rattle.partitions.specs.Map.{Map, rights_of, number_at, partition_at, limit, in_digest, first_word, word_count}
-use Rattle.model.specs.declared.Answer.TheVariants.{Done}
 use Rattle.model.specs.declared.Command.{Command}
 use Rattle.model.specs.declared.Command.TheVariants.{Read, Write, Digest, PowerUp}
 use Rattle.model.specs.Answers.{code_of, value_of}
@@ -101,7 +101,7 @@ module _ (prims : Primitives) (C : Cipher prims) (map : Map) (F : fit map ≡ tr
       → write_denied (locking (stored_digest (partition_at map a) c₀)) (partition_at map a) a ≡ false
       → ready_act prims map m (Write a value)
       ≡ program (direct_rule (partition_at map a) a) (first_word (partition_at map a) a) (stored_words prims map m.lent.constants a value) no_effect
-      (say (Done 0) no_effect)
+      (say (Ok 0) no_effect)
   unfolding ready_act command_act write_act
   write-decided c₀ m f a value below e =
       let w = write-guards (partition_at map a) a e in
@@ -116,7 +116,7 @@ module _ (prims : Primitives) (C : Cipher prims) (map : Map) (F : fit map ≡ tr
         cells =
             program_cells (direct_rule (partition_at map a) a) m.lent.cells (first_word (partition_at map a) a)
             (stored_words prims map m.lent.constants a value);
-        answer = Done 0;
+        answer = Ok 0;
         effect = no_effect;
         compared = [];
       }
@@ -251,7 +251,7 @@ module _ (prims : Primitives) (C : Cipher prims) (map : Map) (F : fit map ≡ tr
         -- on a chip that is Ready since a power-up that found the partition open, a read answers 0 and the data used
         read-act : (c₀ : List ℕ) → Since prims map c₀ m → stored_digest (partition_at map a) c₀ ≡ 0
             → (in_digest p b ≡ false → read_locked m.session (number_at map b) ≡ false)
-            → ready_act prims map m (Read b) ≡ say (Done (used_value map a value)) no_effect
+            → ready_act prims map m (Read b) ≡ say (Ok (used_value map a value)) no_effect
         unfolding ready_act command_act read_act
         read-act c₀ f z k =
             let d' : (rights_of p.kind).direct ≡ true = rw same-partition direct in
@@ -262,29 +262,29 @@ module _ (prims : Primitives) (C : Cipher prims) (map : Map) (F : fit map ≡ tr
               not_read_locked = λ t. and-false (rights_of p.kind).lockable (k t);
               not_secret_locked = λ t. and-false (rights_of p.kind).scrambled (not-sensed c₀ m f b low d' z');
             })))
-            ∙ ap (λ (x : ℕ). say (Done x) no_effect) value-is
+            ∙ ap (λ (x : ℕ). say (Ok x) no_effect) value-is
 
         read_back : (c₀ : List ℕ) → Since prims map c₀ m → stored_digest (partition_at map a) c₀ ≡ 0
             → (in_digest p b ≡ false → read_locked m.session (number_at map b) ≡ false)
-            → answer_to prims map (Read b) m ≡ Done (used_value map a value)
+            → answer_to prims map (Read b) m ≡ Ok (used_value map a value)
         unfolding act performed perform
         read_back c₀ f z k = rw (step-act prims map (Read b) m r tt, answer_to, read-act c₀ f z k)
 
     -- on any chip, a read that answers 0 answers the data used
     read-shows : (m : Machine) → ValidInputs map m → (value : ℕ) → value < 2 ^ 64
         → part_at m.lent.cells first count ≡ stored_words prims map m.lent.constants a value
-        → (b shown : ℕ) → first_word (partition_at map b) b ≡ first → (outcome prims map (Read b) m).answer ≡ Done shown → shown ≡ used_value map a value
+        → (b shown : ℕ) → first_word (partition_at map b) b ≡ first → (outcome prims map (Read b) m).answer ≡ Ok shown → shown ≡ used_value map a value
     unfolding ready_act command_act read_act perform
     read-shows m r value v held b shown same =
         if-both Q _ _ _ (λ t e. absurd (not_done refl e)) λ t. if-both Q _ _ _ (λ t e. absurd (not_done refl e)) λ t e.
         sym (ap value_of e) ∙ value-is b (allowed-below map b _ t) same m r value v held
       where
         Q : Act → Type 0
-        Q x = (perform x m.lent).answer ≡ Done shown → shown ≡ used_value map a value
+        Q x = (perform x m.lent).answer ≡ Ok shown → shown ≡ used_value map a value
 
     read-lasts : (m : Machine) → ValidInputs map m → (value : ℕ) → value < 2 ^ 64
         → part_at m.lent.cells first count ≡ stored_words prims map m.lent.constants a value
-        → (b shown : ℕ) → first_word (partition_at map b) b ≡ first → answer_to prims map (Read b) m ≡ Done shown → shown ≡ used_value map a value
+        → (b shown : ℕ) → first_word (partition_at map b) b ≡ first → answer_to prims map (Read b) m ≡ Ok shown → shown ≡ used_value map a value
     unfolding act performed
     read-lasts m r value v held b shown same = rw (step-act prims map (Read b) m r tt, answer_to) (read-shows m r value v held b shown same)
 
@@ -370,7 +370,7 @@ module _ (prims : Primitives) (C : Cipher prims) (map : Map) (F : fit map ≡ tr
       pub reads-back : NotWritten prims map a l₂ s.result.machine → Lasts prims map l₂ s.result.machine
           → (b : ℕ) → b < limit map → first_word (partition_at map b) b ≡ first_word (partition_at map a) a
           → (in_digest (partition_at map b) b ≡ false → read_locked m₂.session (number_at map b) ≡ false)
-          → answer_to prims map (Read b) m₂ ≡ Done (used_value map a value)
+          → answer_to prims map (Read b) m₂ ≡ Ok (used_value map a value)
       reads-back unwritten lasts b low same =
           let f = after-since prims map F c₀ l₂ s.result.machine lasts (step-since prims map F c₀ (Write a value) m₁ tt since) in
           read_back a al.below guards.direct guards.not_digest b low same m₂ still-inputs value v (still-held (unwritten-stays unwritten)) c₀ f
@@ -380,6 +380,6 @@ module _ (prims : Primitives) (C : Cipher prims) (map : Map) (F : fit map ≡ tr
       pub reads-last : (number_of (stored_words prims map m.lent.constants a value) ≡ 0 → NotWritten prims map a l₂ s.result.machine)
           → (direct_rule (partition_at map a) a ≡ KeepBits → NotWritten prims map a l₂ s.result.machine)
           → (b shown : ℕ) → first_word (partition_at map b) b ≡ first_word (partition_at map a) a
-          → answer_to prims map (Read b) m₂ ≡ Done shown → shown ≡ used_value map a value
+          → answer_to prims map (Read b) m₂ ≡ Ok shown → shown ≡ used_value map a value
       reads-last unwritten again =
           read-lasts a al.below guards.direct guards.not_digest m₂ still-inputs value v (still-held (lasting-stays unwritten again))

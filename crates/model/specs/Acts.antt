@@ -1,15 +1,14 @@
 -- A command is first decided, as an act, and then performed on what is lent: it says an answer, programs words, or compares a token.
-use Rattle.std.specs.Prelude.{ℕ, Bool, List, [], ◌∷◌}
+use Rattle.std.specs.Prelude.{ℕ, Bool, List, [], ◌∷◌, Err, Result, Ok, ⊤}
 use Rattle.basics.specs.Choice.{when◌then◌else◌}
 use Rattle.words.specs.declared.Rule.{Rule}
-use Rattle.words.specs.declared.Programmed.{Programmed}
-use Rattle.words.specs.declared.Programmed.TheVariants as programmed
 use Rattle.words.specs.Programming.{program_answer, program_cells}
 use Rattle.model.specs.declared.Reason.TheVariants as reason
 use Rattle.model.specs.declared.Phase.TheVariants.{Inert, Dead}
 use Rattle.model.specs.declared.Session.{Session}
-use Rattle.model.specs.declared.Answer.{Answer}
-use Rattle.model.specs.declared.Answer.TheVariants.{NotBlank}
+use Rattle.model.specs.declared.Failure.{Failure}
+use Rattle.model.specs.declared.Failure.TheVariants.{NotBlank}
+use Rattle.model.specs.Answers.{Answer}
 use Rattle.model.specs.Session.{in_phase, with_lock}
 use Rattle.model.specs.Lent.{Lent, with_cells}
 
@@ -34,8 +33,8 @@ pub data Act : Type 0 where
   compare : (Lent → Bool) → Act → Act → Act
 
 -- "A refusal leaves cells, copy and record as they were"
-abbrev pub refuse : Answer → Act
-refuse answer = say answer no_effect
+abbrev pub refuse : Failure → Act
+refuse failure = say (Err failure) no_effect
 
 -- what performing an act comes to, with the results of its token comparisons
 pub record Performed : Type 0 where
@@ -45,9 +44,9 @@ pub record Performed : Type 0 where
   pub compared : List Bool
 
 -- done words lead on, a refused cell ends the act
-unfoldable pub after_program : Programmed → Performed → (ℕ → Performed) → Performed
-after_program programmed.Done next refused = next
-after_program (programmed.Refused cell) next refused = refused cell
+unfoldable pub after_program : Result ⊤ ℕ → Performed → (ℕ → Performed) → Performed
+after_program (Ok done) next refused = next
+after_program (Err cell) next refused = refused cell
 
 -- a comparison's result stands before those of what follows
 unfoldable pub with_comparison : Bool → Performed → Performed
@@ -58,5 +57,5 @@ unfoldable pub perform : Act → Lent → Performed
 perform (say answer effect) l = record { cells = l.cells; answer = answer; effect = effect; compared = [] }
 perform (program rule at words effect next) l =
     after_program (program_answer rule l.cells at words) (perform next (with_cells (program_cells rule l.cells at words) l))
-    (λ cell. record { cells = l.cells; answer = NotBlank cell; effect = effect; compared = [] })
+    (λ cell. record { cells = l.cells; answer = Err (NotBlank cell); effect = effect; compared = [] })
 perform (compare test same other) l = with_comparison (test l) (when test l then perform same l else perform other l)

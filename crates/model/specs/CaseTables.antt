@@ -1,14 +1,12 @@
 -- What a case is, what it means that a table of cases holds, and the rows that are alike in both maps: for any keys, digest constants, cipher, digest and hash.
-use Rattle.std.specs.Prelude.{ℕ, ◌+◌, ◌-◌, ◌/◌, ◌≡◌, List, [], ◌∷◌, ◌++◌, map, length, replicate}
-use Rattle.std.proofs.Math.Option.{Option, none, some}
+use Rattle.std.specs.Prelude.{ℕ, ◌+◌, ◌-◌, ◌/◌, ◌≡◌, List, [], ◌∷◌, ◌++◌, map, length, replicate, Option, None, Some}
 use Rattle.std.specs.Int.Bits.{bit_xor}
 use Rattle.basics.specs.Range.{listed}
 use Rattle.words.specs.Words.{words_of}
 use Rattle.partitions.specs.Map.{Map}
-use Rattle.model.specs.declared.Answer.{Answer}
 use Rattle.model.specs.declared.Command.{Command}
 use Rattle.model.specs.declared.Command.TheVariants.{Read, Write, FrontRead, Digest, ReadLock, Transition, PowerUp}
-use Rattle.model.specs.Answers.{code_of, value_of}
+use Rattle.model.specs.Answers.{Answer, code_of, value_of}
 use Rattle.model.specs.Session.{fresh_session}
 use Rattle.model.specs.Lent.{Machine, Primitives}
 use Rattle.model.specs.Step.{after, answers}
@@ -47,12 +45,12 @@ module _ (size : ℕ) where
   array_with at ws = replicate at 0 ++ ws ++ replicate (size - at - length ws) 0
 
   abbrev pub on_blank : List Command → List (ℕ × ℕ) → Case
-  on_blank commands expected = record { cells = blank_array; commands = commands; expected = expected; left = none; stored = as_is }
+  on_blank commands expected = record { cells = blank_array; commands = commands; expected = expected; left = None; stored = as_is }
 
   -- "A fresh record is Off": before a power-up every other command answers 7.
   abbrev pub off : Case
   off =
-      on_blank (Read 0 ∷ Write 0 1 ∷ FrontRead 0 ∷ Digest 0 ∷ ReadLock 0 ∷ Transition 1 0 7 ∷ [])
+      on_blank (Read 0 ∷ Write 0 1 ∷ FrontRead 0 ∷ Digest 0 ∷ ReadLock 0 ∷ Transition 1 7 ∷ [])
       ((0x07, 0) ∷ (0x07, 0) ∷ (0x07, 0) ∷ (0x07, 0) ∷ (0x07, 0) ∷ (0x07, 0) ∷ [])
 
   -- Request Two, both sides of 0x0F8 and 0x0FC, in the partition of 0x100 bytes that starts at s.
@@ -63,7 +61,7 @@ module _ (size : ℕ) where
       cells = blank_array;
       commands = PowerUp ∷ Write (s + a) number ∷ [];
       expected = (0x00, 0) ∷ (0x00, 0) ∷ [];
-      left = some (array_with ((s + first) / 2) ws);
+      left = Some (array_with ((s + first) / 2) ws);
       stored = as_is;
     }
 
@@ -80,7 +78,7 @@ module _ (size : ℕ) where
           cells = array_with ((s + 0xF8) / 2) words;
           commands = PowerUp ∷ Read (s + 0xF7) ∷ Read (s + 0xF8) ∷ Read (s + 0xFB) ∷ Read (s + 0xFC) ∷ Read (s + 0xFF) ∷ Read (s + 0x100) ∷ [];
           expected = (0x00, 0) ∷ (0x00, 0) ∷ (0x00, number) ∷ (0x00, number) ∷ (0x00, number) ∷ (0x00, number) ∷ (0x00, 0) ∷ [];
-          left = none;
+          left = None;
           stored = as_is;
         }
         -- One half is not written after the other, nor both (request Three); the word named is the first of the digest (request Five).
@@ -100,7 +98,7 @@ module _ (size : ℕ) where
           cells = blank_array;
           commands = PowerUp ∷ Write s 0x0F ∷ Write s 0x0F ∷ Write s 0xFF ∷ Write s 0 ∷ PowerUp ∷ Write s 0xFF ∷ [];
           expected = (0x00, 0) ∷ (0x00, 0) ∷ (0x04, s / 2) ∷ (0x04, s / 2) ∷ (0x04, s / 2) ∷ (0x00, 0) ∷ (0x04, s / 2) ∷ [];
-          left = some (array_with (s / 2) (0x0F ∷ []));
+          left = Some (array_with (s / 2) (0x0F ∷ []));
           stored = as_is;
         }
         -- The first word is blank, and does not take a value either; the second is named (request Five). The next granule takes one.
@@ -110,7 +108,7 @@ module _ (size : ℕ) where
           cells = blank_array;
           commands = PowerUp ∷ Write s 0 ∷ Write s 0 ∷ [];
           expected = (0x00, 0) ∷ (0x00, 0) ∷ (0x00, 0) ∷ [];
-          left = some blank_array;
+          left = Some blank_array;
           stored = as_is;
         }
         ∷ on_blank (PowerUp ∷ Write s 0 ∷ Write s 5 ∷ Read s ∷ []) ((0x00, 0) ∷ (0x00, 0) ∷ (0x00, 0) ∷ (0x00, 5) ∷ [])
@@ -124,7 +122,7 @@ module _ (size : ℕ) where
       cells = array_with (s / 2) ws;
       commands = PowerUp ∷ Write s number ∷ Write (s + 7) 0 ∷ [];
       expected = (0x00, 0) ∷ (0x04, s / 2 + i) ∷ (0x04, s / 2 + i) ∷ [];
-      left = some (array_with (s / 2) ws);
+      left = Some (array_with (s / 2) ws);
       stored = as_is;
     }
 
@@ -143,8 +141,8 @@ module _ (prims : Primitives) (keys : ℕ → ℕ) where
   said answer = (code_of answer, value_of answer)
 
   abbrev pub leaves : Option (List ℕ) → List ℕ → Type 0
-  leaves none cells = Unit {0}
-  leaves (some left) cells = cells ≡ left
+  leaves None cells = Unit {0}
+  leaves (Some left) cells = cells ≡ left
 
   -- a chip of so many words with these cells, switched off
   abbrev pub chip_with : (ℕ → ℕ) → ℕ → List ℕ → Machine

@@ -1,6 +1,5 @@
 -- The 14 cases of document 01, read with the hashing of request Four, and those of requests Two, Three and Five in one table, over Map 1.
-use Rattle.std.specs.Prelude.{ℕ, List, [], ◌∷◌, ◌++◌, replicate}
-use Rattle.std.proofs.Math.Option.{none, some}
+use Rattle.std.specs.Prelude.{ℕ, List, [], ◌∷◌, ◌++◌, replicate, None, Some}
 use Rattle.partitions.specs.Map1.{map1}
 use Rattle.model.specs.declared.Command.{Command}
 use Rattle.model.specs.declared.Command.TheVariants.{Read, Write, FrontRead, Digest, ReadLock, Transition, PowerUp}
@@ -42,22 +41,22 @@ paper =
     -- 8. Partition 0 read-locked: read 0x000 is 5, 0x0F8 is 0.
     ∷ case (PowerUp ∷ ReadLock 0 ∷ Read 0x000 ∷ Read 0x0F8 ∷ []) ((0x00, 0) ∷ (0x00, 0) ∷ (0x05, 0) ∷ (0x00, 0) ∷ [])
     -- 9. RAW to state 1, right token: 0; any next command but power-up: 7; power-up: 257.
-    ∷ case (PowerUp ∷ Transition 1 0 7 ∷ Read 0 ∷ Write 0 0 ∷ FrontRead 0x200 ∷ Digest 0x200 ∷ ReadLock 0 ∷ Transition 1 0 7 ∷ PowerUp ∷ [])
+    ∷ case (PowerUp ∷ Transition 1 7 ∷ Read 0 ∷ Write 0 0 ∷ FrontRead 0x200 ∷ Digest 0x200 ∷ ReadLock 0 ∷ Transition 1 7 ∷ PowerUp ∷ [])
     ((0x00, 0) ∷ (0x00, 0) ∷ (0x07, 0) ∷ (0x07, 0) ∷ (0x07, 0) ∷ (0x07, 0) ∷ (0x07, 0) ∷ (0x07, 0) ∷ (0x00, 257) ∷ [])
     -- 10. Wrong token: 0x23; power-up 256.
     ∷ record {
       cells = blank_array 448;
-      commands = PowerUp ∷ Transition 1 0 7 ∷ PowerUp ∷ [];
+      commands = PowerUp ∷ Transition 1 7 ∷ PowerUp ∷ [];
       expected = (0x00, 0) ∷ (0x23, 0) ∷ (0x00, 256) ∷ [];
-      left = none;
+      left = None;
       stored = lowest_bit_changed;
     }
     -- 11. RAW to DEV: 0x21; power-up 256.
-    ∷ case (PowerUp ∷ Transition 16 0 7 ∷ PowerUp ∷ []) ((0x00, 0) ∷ (0x21, 0) ∷ (0x00, 256) ∷ [])
+    ∷ case (PowerUp ∷ Transition 16 7 ∷ PowerUp ∷ []) ((0x00, 0) ∷ (0x21, 0) ∷ (0x00, 256) ∷ [])
     -- 12. Count 24, target SCRAP: 0x20, cells unchanged.
-    ∷ record { cells = spent; commands = PowerUp ∷ Transition 20 0 0 ∷ []; expected = (0x00, 6144) ∷ (0x20, 0) ∷ []; left = some spent; stored = as_is }
+    ∷ record { cells = spent; commands = PowerUp ∷ Transition 20 0 ∷ []; expected = (0x00, 6144) ∷ (0x20, 0) ∷ []; left = Some spent; stored = as_is }
     -- 13. TEST_LOCKED0 to TEST_UNLOCKED1, SECRET0 open: 0x22; the stroke is spent, and a power-up answers 770.
-    ∷ case (PowerUp ∷ Transition 1 0 7 ∷ PowerUp ∷ Transition 2 0 0 ∷ PowerUp ∷ Transition 3 0 0 ∷ PowerUp ∷ [])
+    ∷ case (PowerUp ∷ Transition 1 7 ∷ PowerUp ∷ Transition 2 0 ∷ PowerUp ∷ Transition 3 0 ∷ PowerUp ∷ [])
     ((0x00, 0) ∷ (0x00, 0) ∷ (0x00, 257) ∷ (0x00, 0) ∷ (0x00, 514) ∷ (0x22, 0) ∷ (0x00, 770) ∷ [])
     -- 14. DEVICE_ID written: front read old, read new; after power-up both new.
     ∷ case (PowerUp ∷ Write 0x200 0x99 ∷ FrontRead 0x200 ∷ Read 0x200 ∷ PowerUp ∷ FrontRead 0x200 ∷ Read 0x200 ∷ [])

@@ -1,6 +1,5 @@
 -- The 14 cases of document 01 over Map 2, and cases of what is new there (request Six), in one table. HW_CFG0 stands for HW_CFG, partition 0 is VENDOR_TEST.
-use Rattle.std.specs.Prelude.{ℕ, List, [], ◌∷◌, ◌++◌, replicate}
-use Rattle.std.proofs.Math.Option.{none, some}
+use Rattle.std.specs.Prelude.{ℕ, List, [], ◌∷◌, ◌++◌, replicate, None, Some}
 use Rattle.partitions.specs.Map2.{map2}
 use Rattle.model.specs.declared.Command.TheVariants.{Read, Write, FrontRead, Digest, ReadLock, Transition, PowerUp}
 use Rattle.constants.specs.Constants.{digest_start, digest_final}
@@ -32,28 +31,28 @@ paper_on_map2 =
     -- 8. Partition 0 read-locked: read 0x000 is 5, 0x038 is 0.
     ∷ on_blank 740 (PowerUp ∷ ReadLock 0 ∷ Read 0x000 ∷ Read 0x038 ∷ []) ((0x00, 0) ∷ (0x00, 0) ∷ (0x05, 0) ∷ (0x00, 0) ∷ [])
     -- 9. RAW to state 1, right token: 0; any next command but power-up: 7; power-up: 257.
-    ∷ on_blank 740 (PowerUp ∷ Transition 1 0 7 ∷ Read 0 ∷ Write 0 0 ∷ FrontRead 0x440 ∷ Digest 0x440 ∷ ReadLock 0 ∷ Transition 1 0 7 ∷ PowerUp ∷ [])
+    ∷ on_blank 740 (PowerUp ∷ Transition 1 7 ∷ Read 0 ∷ Write 0 0 ∷ FrontRead 0x440 ∷ Digest 0x440 ∷ ReadLock 0 ∷ Transition 1 7 ∷ PowerUp ∷ [])
     ((0x00, 0) ∷ (0x00, 0) ∷ (0x07, 0) ∷ (0x07, 0) ∷ (0x07, 0) ∷ (0x07, 0) ∷ (0x07, 0) ∷ (0x07, 0) ∷ (0x00, 257) ∷ [])
     -- 10. Wrong token: 0x23; power-up 256.
     ∷ record {
       cells = blank_array 740;
-      commands = PowerUp ∷ Transition 1 0 7 ∷ PowerUp ∷ [];
+      commands = PowerUp ∷ Transition 1 7 ∷ PowerUp ∷ [];
       expected = (0x00, 0) ∷ (0x23, 0) ∷ (0x00, 256) ∷ [];
-      left = none;
+      left = None;
       stored = lowest_bit_changed;
     }
     -- 11. RAW to DEV: 0x21; power-up 256.
-    ∷ on_blank 740 (PowerUp ∷ Transition 16 0 7 ∷ PowerUp ∷ []) ((0x00, 0) ∷ (0x21, 0) ∷ (0x00, 256) ∷ [])
+    ∷ on_blank 740 (PowerUp ∷ Transition 16 7 ∷ PowerUp ∷ []) ((0x00, 0) ∷ (0x21, 0) ∷ (0x00, 256) ∷ [])
     -- 12. Count 24, target SCRAP: 0x20, cells unchanged.
     ∷ record {
       cells = spent_of_map2;
-      commands = PowerUp ∷ Transition 20 0 0 ∷ [];
+      commands = PowerUp ∷ Transition 20 0 ∷ [];
       expected = (0x00, 6144) ∷ (0x20, 0) ∷ [];
-      left = some spent_of_map2;
+      left = Some spent_of_map2;
       stored = as_is;
     }
     -- 13. TEST_LOCKED0 to TEST_UNLOCKED1, SECRET0 open: 0x22; the stroke is spent, and a power-up answers 770.
-    ∷ on_blank 740 (PowerUp ∷ Transition 1 0 7 ∷ PowerUp ∷ Transition 2 0 0 ∷ PowerUp ∷ Transition 3 0 0 ∷ PowerUp ∷ [])
+    ∷ on_blank 740 (PowerUp ∷ Transition 1 7 ∷ PowerUp ∷ Transition 2 0 ∷ PowerUp ∷ Transition 3 0 ∷ PowerUp ∷ [])
     ((0x00, 0) ∷ (0x00, 0) ∷ (0x00, 257) ∷ (0x00, 0) ∷ (0x00, 514) ∷ (0x22, 0) ∷ (0x00, 770) ∷ [])
     -- 14. DEVICE_ID written: front read old, read new; after power-up both new.
     ∷ on_blank 740 (PowerUp ∷ Write 0x440 0x99 ∷ FrontRead 0x440 ∷ Read 0x440 ∷ PowerUp ∷ FrontRead 0x440 ∷ Read 0x440 ∷ [])
@@ -69,7 +68,7 @@ auth_state_rows =
       commands =
           PowerUp ∷ Write 0x418 0x0F ∷ Write 0x41B 0xF0 ∷ Write 0x418 0x1F ∷ Write 0x418 0x1F ∷ PowerUp ∷ Write 0x41A 0xFF ∷ Write 0x418 0 ∷ Read 0x419 ∷ [];
       expected = (0x00, 0) ∷ (0x00, 0) ∷ (0x04, 0x20C) ∷ (0x00, 0) ∷ (0x00, 0) ∷ (0x00, 0) ∷ (0x00, 0) ∷ (0x04, 0x20C) ∷ (0x00, 0xFF) ∷ [];
-      left = some (array_with 740 0x20C (0xFF ∷ []));
+      left = Some (array_with 740 0x20C (0xFF ∷ []));
       stored = as_is;
     }
     -- The lowest word whose bit would be cleared is named: the second, where the first only gains; the first, where both lose. The last granule of the data.
@@ -113,21 +112,21 @@ edge_rows =
       cells = blank_array 740;
       commands = PowerUp ∷ Write 0x037 number ∷ Write 0x03F number ∷ Write 0x040 number ∷ [];
       expected = (0x00, 0) ∷ (0x00, 0) ∷ (0x00, 0) ∷ (0x00, 0) ∷ [];
-      left = some (array_with 740 0x01A ((0x7788 ∷ 0x5566 ∷ []) ++ words ++ (0x7788 ∷ 0x5566 ∷ [])));
+      left = Some (array_with 740 0x01A ((0x7788 ∷ 0x5566 ∷ []) ++ words ++ (0x7788 ∷ 0x5566 ∷ [])));
       stored = as_is;
     }
     ∷ record {
       cells = blank_array 740;
       commands = PowerUp ∷ Write 0x23F number ∷ Write 0x240 number ∷ [];
       expected = (0x00, 0) ∷ (0x00, 0) ∷ (0x00, 0) ∷ [];
-      left = some (array_with 740 0x11C (words ++ (0x7788 ∷ 0x5566 ∷ [])));
+      left = Some (array_with 740 0x11C (words ++ (0x7788 ∷ 0x5566 ∷ [])));
       stored = as_is;
     }
     ∷ record {
       cells = blank_array 740;
       commands = PowerUp ∷ Write 0x40F number ∷ Write 0x417 number ∷ Write 0x418 number ∷ [];
       expected = (0x00, 0) ∷ (0x00, 0) ∷ (0x00, 0) ∷ (0x00, 0) ∷ [];
-      left = some (array_with 740 0x206 ((0x7788 ∷ 0x5566 ∷ []) ++ words ++ (0x7788 ∷ 0x5566 ∷ [])));
+      left = Some (array_with 740 0x206 ((0x7788 ∷ 0x5566 ∷ []) ++ words ++ (0x7788 ∷ 0x5566 ∷ [])));
       stored = as_is;
     }
     ∷ []

@@ -1,7 +1,7 @@
 -- The commands but power-up, each in the paper's order of refusals, over any primitives and map. What each may do is in the sentence above it. Addresses and
 -- numbers there are those of Map 1: "0x10, 0x06 and the address limit read from the map in use; where 01 or Two numbers or counts partitions, their kind
 -- decides." (request Six)
-use Rattle.std.specs.Prelude.{ℕ, suc, ◌+◌, ◌*◌, ◌-◌, ◌/◌, ◌^◌, Bool, not, ◌&&◌, ◌||◌, List, eqb, leb, ltb}
+use Rattle.std.specs.Prelude.{ℕ, suc, ◌+◌, ◌*◌, ◌-◌, ◌/◌, ◌^◌, Bool, not, ◌&&◌, ◌||◌, List, eqb, leb, ltb, Ok, Err}
 use Rattle.basics.specs.Choice.{when◌then◌else◌}
 use Rattle.words.specs.declared.Rule.{Rule}
 use Rattle.words.specs.declared.Rule.TheVariants.{KeepBits, BlankOnly}
@@ -17,8 +17,8 @@ use Rattle.life_cycle.specs.declared.Entry.TheVariants.{Allowed, Forbidden}
 use Rattle.life_cycle.specs.Words.{counter_words, state_words}
 use Rattle.life_cycle.specs.Transitions.{table_entry}
 use Rattle.model.specs.declared.Session.{Session}
-use Rattle.model.specs.declared.Answer.{Answer}
-use Rattle.model.specs.declared.Answer.TheVariants.{Done, Denied, NotReady, UnknownTarget, StrokesUsed, NotInTable, TokenNotLocked, TokenDiffers}
+use Rattle.model.specs.declared.Failure.{Failure}
+use Rattle.model.specs.declared.Failure.TheVariants.{Denied, NotReady, UnknownTarget, StrokesUsed, NotInTable, TokenNotLocked, TokenDiffers}
 use Rattle.model.specs.declared.Command.{Command}
 use Rattle.model.specs.declared.Command.TheVariants.{Read, Write, FrontRead, Digest, ReadLock, Transition, PowerUp}
 use Rattle.model.specs.Session.{is_ready, sensed_locked, read_locked}
@@ -124,7 +124,7 @@ module _ (map : Map) where
 
 -- what decides a move once the stroke is spent: it is refused, it is free, or the token given is compared
 pub data Authorization : Type 0 where
-  refused : Answer → Authorization
+  refused : Failure → Authorization
   free : Authorization
   by_token : (Lent → Bool) → Authorization
 
@@ -159,13 +159,13 @@ module _ (prims : Primitives) (map : Map) (m : Machine) where
   write_act a value =
       let p = partition_at map a in
       when leb (limit map) a || write_denied (sensed_locked session (number_at map a)) p a then refuse Denied
-      else program (direct_rule p a) (first_word p a) (stored_form prims constants p a value) no_effect (say (Done 0) no_effect)
+      else program (direct_rule p a) (first_word p a) (stored_form prims constants p a value) no_effect (say (Ok 0) no_effect)
 
   unfoldable pub read_act : ℕ → Act
   read_act a =
       let p = partition_at map a in
       when leb (limit map) a || read_denied (sensed_locked session (number_at map a)) (read_locked session (number_at map a)) p a then refuse Denied
-      else say (Done (read_value prims constants p m.lent.cells a)) no_effect
+      else say (Ok (read_value prims constants p m.lent.cells a)) no_effect
 
   -- "Computes over the stored data words, programs the digest location, answers the digest."
   unfoldable pub digest_act : ℕ → Act
@@ -173,27 +173,27 @@ module _ (prims : Primitives) (map : Map) (m : Machine) where
       let p = partition_at map a in
       let digest = computed_digest prims constants p m.lent.cells in
       when leb (limit map) a || digest_denied (sensed_locked session (number_at map a)) p a then refuse Denied
-      else program digest_rule (p.digest / 2) (words_of 4 digest) no_effect (say (Done digest) no_effect)
+      else program digest_rule (p.digest / 2) (words_of 4 digest) no_effect (say (Ok digest) no_effect)
 
   -- "5 unless 0 or 1. Lasts until power-up; locking again answers 0." (0 and 1 are the partitions with a read lock)
   unfoldable pub read_lock_act : ℕ → Act
-  read_lock_act number = when not (rights_of (partition map number).kind).lockable then refuse Denied else say (Done 0) (lock number)
+  read_lock_act number = when not (rights_of (partition map number).kind).lockable then refuse Denied else say (Ok 0) (lock number)
 
   -- "from the sensed copy"
   unfoldable pub front_read_act : ℕ → Act
   front_read_act a =
       let p = partition_at map a in
-      when leb (limit map) a || front_read_denied p a then refuse Denied else say (Done (granule p m.lent.copy a)) no_effect
+      when leb (limit map) a || front_read_denied p a then refuse Denied else say (Ok (granule p m.lent.copy a)) no_effect
 
   -- "then the 20 state words are programmed"
   unfoldable pub move_act : ℕ → Act
-  move_act target = program life_cycle_rule (state_at map) (state_words constants target) to_dead (say (Done 0) to_inert)
+  move_act target = program life_cycle_rule (state_at map) (state_words constants target) to_dead (say (Ok 0) to_inert)
 
   -- "then 0x21; 0x22; 0x23"
   unfoldable pub authorized_act : Authorization → ℕ → Act
-  authorized_act (refused answer) target = say answer to_inert
+  authorized_act (refused failure) target = say (Err failure) to_inert
   authorized_act free target = move_act target
-  authorized_act (by_token test) target = compare test (move_act target) (say TokenDiffers to_inert)
+  authorized_act (by_token test) target = compare test (move_act target) (say (Err TokenDiffers) to_inert)
 
   -- "Order: 0x20 with no cell changed; then the 24 counter words of one stroke more than the record's count are programmed; then 0x21; 0x22;
   -- 0x23; then the 20 state words". Before them, 7 for a record's state above 20 or count above 24, and "0x11 changes nothing".
@@ -201,7 +201,7 @@ module _ (prims : Primitives) (map : Map) (m : Machine) where
   transition_act target given =
       when not (leb session.state 20 && leb session.count 24) then refuse NotReady
       else when not (leb target 20) then refuse UnknownTarget
-      else when not (ltb session.count 24) then say StrokesUsed to_inert
+      else when not (ltb session.count 24) then say (Err StrokesUsed) to_inert
       else program life_cycle_rule (counter_at map) (counter_words constants (suc session.count)) to_dead
       (authorized_act (authorization prims map session (table_entry session.state target) given) target)
 
@@ -212,7 +212,7 @@ module _ (prims : Primitives) (map : Map) (m : Machine) where
   command_act (FrontRead a) = front_read_act a
   command_act (Digest a) = digest_act a
   command_act (ReadLock number) = read_lock_act number
-  command_act (Transition target high low) = transition_act target (high * 2 ^ 64 + low)
+  command_act (Transition target given) = transition_act target given
   command_act PowerUp = refuse NotReady
 
   -- "phase is not Ready (except at power-up)"
@@ -231,5 +231,5 @@ class_of (Write a value) = access
 class_of (FrontRead a) = access
 class_of (Digest a) = access
 class_of (ReadLock number) = access
-class_of (Transition target high low) = transiting
+class_of (Transition target given) = transiting
 class_of PowerUp = sensing

@@ -1,6 +1,5 @@
 -- Power-up, "from any phase".
-use Rattle.std.specs.Prelude.{ℕ, ◌+◌, ◌*◌, ◌-◌, ◌/◌, Bool, not, ◌&&◌, ◌||◌, List, eqb, length, get_or}
-use Rattle.std.proofs.Math.Option.{Option, none, some}
+use Rattle.std.specs.Prelude.{ℕ, ◌+◌, ◌*◌, ◌-◌, ◌/◌, Bool, not, ◌&&◌, ◌||◌, List, eqb, length, get_or, Ok, Err, Option, None, Some}
 use Rattle.basics.specs.Choice.{when◌then◌else◌}
 use Rattle.basics.specs.Range.{listed, first_not}
 use Rattle.words.specs.Words.{words_of, part_at}
@@ -13,8 +12,9 @@ use Rattle.model.specs.declared.Reason.{Reason}
 use Rattle.model.specs.declared.Reason.TheVariants as reason
 use Rattle.model.specs.declared.Phase.TheVariants.{Ready, Dead}
 use Rattle.model.specs.declared.Session.{Session}
-use Rattle.model.specs.declared.Answer.{Answer}
-use Rattle.model.specs.declared.Answer.TheVariants.{Done, DigestFailed, LifeCycleFailed}
+use Rattle.model.specs.declared.Failure.{Failure}
+use Rattle.model.specs.declared.Failure.TheVariants.{DigestFailed, LifeCycleFailed}
+use Rattle.model.specs.Answers.{Answer}
 use Rattle.model.specs.Session.{entries, no_digests, unlocked}
 use Rattle.model.specs.Lent.{Lent, Primitives}
 use Rattle.model.specs.Commands.{granule, stored_digest, computed_digest, unscrambled, counter_at, state_at}
@@ -29,7 +29,7 @@ digests cells map = listed (λ n. sensed_digest cells (partition map n)) 0 entri
 
 -- how a power-up ends: dead, with a reason and an answer, or ready with a state and a count
 pub data PowerUpEnd : Type 0 where
-  fails : Reason → Answer → PowerUpEnd
+  fails : Reason → Failure → PowerUpEnd
   succeeds : ℕ → ℕ → PowerUpEnd
 
 -- "invalid or SCRAP gives 7 and Dead 7 .. value for SCRAP as below, for invalid 0xFFFF"; SCRAP is state 20
@@ -40,8 +40,8 @@ life_cycle_end (Valid state count) =
 
 -- "the first that differs gives 6 and Dead 6. Then .."
 unfoldable pub end_of : Option ℕ → LifeCycle → PowerUpEnd
-end_of (some number) life = fails reason.DigestFailed (DigestFailed number)
-end_of none life = life_cycle_end life
+end_of (Some number) life = fails reason.DigestFailed (DigestFailed number)
+end_of None life = life_cycle_end life
 
 module _ (prims : Primitives) where
   -- "Partitions 2 to 5 ..: a nonzero stored digest must equal the one recomputed" (2 to 5 are those with a hardware digest)
@@ -56,13 +56,13 @@ life_cycle_in map l = decoded l.constants (part_at l.cells (counter_at map) 24) 
 -- "A 6 or 7 here sets .. sensed digests, state and count to zero" "Success: Ready; sensed digests of 0 to 5 are the stored ones". Both clear the read
 -- locks.
 unfoldable pub powered_session : Map → PowerUpEnd → Lent → Session
-powered_session map (fails reason answer) l = unlocked (Dead reason) no_digests 0 0
+powered_session map (fails reason failure) l = unlocked (Dead reason) no_digests 0 0
 powered_session map (succeeds state count) l = unlocked Ready (digests l.cells map) state count
 
 -- "value 256 times count plus state"
 unfoldable pub powered_answer : PowerUpEnd → Answer
-powered_answer (fails reason answer) = answer
-powered_answer (succeeds state count) = Done (256 * count + state)
+powered_answer (fails reason failure) = Err failure
+powered_answer (succeeds state count) = Ok (256 * count + state)
 
 module _ (prims : Primitives) (map : Map) where
   -- An integrity verdict: "the first partition that fails a power-up's digest check, or none"
@@ -85,7 +85,7 @@ module _ (prims : Primitives) (map : Map) where
 
   -- "A 6 or 7 here sets the copy to all zero"
   unfoldable pub powered_copy : PowerUpEnd → Lent → List ℕ
-  powered_copy (fails reason answer) l = listed (λ j. 0) 0 (limit map / 2)
+  powered_copy (fails reason failure) l = listed (λ j. 0) 0 (limit map / 2)
   powered_copy (succeeds state count) l = listed (copy_word l.constants l.cells) 0 (limit map / 2)
 
   -- how a power-up of these cells ends

@@ -6,7 +6,7 @@ ghost use Rattle.model.specs.Session.{fresh_session, unlocked, in_phase, with_lo
 ghost use Rattle.model.specs.Answers.{code_of, value_of};
 
 // Why a phase is dead: a programmed bit would have been cleared (4), a digest check failed (6), the life cycle is not usable (7).
-#[derive(Clone, Copy)]
+#[derive(Clone, Copy, PartialEq, Eq, Debug)]
 pub enum Reason {
     BitCleared,
     DigestFailed,
@@ -14,7 +14,7 @@ pub enum Reason {
 }
 
 // The phase of a session; a dead one carries its reason.
-#[derive(Clone, Copy)]
+#[derive(Clone, Copy, PartialEq, Eq, Debug)]
 pub enum Phase {
     Off,
     Ready,
@@ -26,26 +26,25 @@ pub enum Phase {
 pub const ENTRIES: usize = 10;
 
 // The session record: phase, sensed digests, read locks, life cycle state and stroke count.
-#[derive(Clone, Copy)]
+#[derive(Clone, Copy, PartialEq, Eq, Debug)]
 pub struct Session {
     pub phase: Phase,
-    pub sensed: [u64; 10],
-    pub locks: [bool; 10],
+    pub sensed: [u64; ENTRIES],
+    pub locks: [bool; ENTRIES],
     pub state: u8,
     pub count: u8,
 }
 
 // How many words are lent as cells and as sensed copy.
-#[derive(Clone, Copy)]
+#[derive(Clone, Copy, PartialEq, Eq, Debug)]
 pub struct Sizes {
     pub cells: usize,
     pub copy: usize,
 }
 
-// What a command answers. `NotBlank` names the lowest cell that refused, `DigestFailed` the partition.
-#[derive(Clone, Copy)]
-pub enum Answer {
-    Done(u64),
+// Why a command is not done. `NotBlank` names the lowest cell that refused, `DigestFailed` the partition.
+#[derive(Clone, Copy, PartialEq, Eq, Debug)]
+pub enum Failure {
     NotBlank(usize),
     Denied,
     DigestFailed(usize),
@@ -60,20 +59,23 @@ pub enum Answer {
     TokenDiffers,
 }
 
-// A command: addresses are byte addresses, a token comes as its high and its low 64 bits.
-#[derive(Clone, Copy)]
+// What a command answers: the value that it is done with, or why it is not.
+pub type Answer = Result<u64, Failure>;
+
+// A command: addresses are byte addresses; a transition has the state to go to and the token given.
+#[derive(Clone, Copy, PartialEq, Eq, Debug)]
 pub enum Command {
     Read(u32),
     Write(u32, u64),
     FrontRead(u32),
     Digest(u32),
     ReadLock(u8),
-    Transition(u8, u64, u64),
+    Transition(u8, u128),
     PowerUp,
 }
 
 // What a command gives back beside what is lent.
-#[derive(Clone, Copy)]
+#[derive(Clone, Copy, PartialEq, Eq, Debug)]
 pub struct Outcome {
     pub session: Session,
     pub answer: Answer,
@@ -81,13 +83,13 @@ pub struct Outcome {
 
 impl Session {
     // A record with no read lock.
-    pub fn unlocked(phase: Phase, sensed: [u64; 10], state: u8, count: u8) -> Session
+    pub fn unlocked(phase: Phase, sensed: [u64; ENTRIES], state: u8, count: u8) -> Session
         ensures { result ≡ unlocked phase sensed state count }
     {
         Session {
             phase,
             sensed,
-            locks: [false; 10],
+            locks: [false; ENTRIES],
             state,
             count,
         }
@@ -97,47 +99,36 @@ impl Session {
     pub fn fresh() -> Session
         ensures { result ≡ fresh_session }
     {
-        Session::unlocked(Phase::Off, [0; 10], 0, 0)
+        Session::unlocked(Phase::Off, [0; ENTRIES], 0, 0)
     }
 
     // The record in another phase.
     pub fn in_phase(self, phase: Phase) -> Session
         ensures { result ≡ in_phase phase self }
     {
-        let sensed = self.sensed;
-        let locks = self.locks;
-        Session {
-            phase,
-            sensed,
-            locks,
-            state: self.state,
-            count: self.count,
-        }
+        Session { phase, ..self }
     }
 
     // The record with a partition read-locked; past the entries there is nothing to lock.
-    pub fn with_lock(self, number: usize) -> Session
+    pub fn with_lock(mut self, number: usize) -> Session
         ensures { result ≡ with_lock number self }
     {
-        let mut locked = self;
         if number < ENTRIES {
-            locked.locks[number] = true;
+            self.locks[number] = true;
         }
-        locked
+        self
     }
 
     // The sensed digest of a partition by its number; 0 past the entries.
+    #[tactic(auto, unfolding(crate::specs::Session::sensed_at))]
     pub fn sensed_at(self, number: usize) -> u64
         ensures { result ≡ sensed_at self number }
     {
-        if number < ENTRIES {
-            self.sensed[number]
-        } else {
-            0
-        }
+        self.sensed.get(number).copied().unwrap_or(0)
     }
 
     // Whether a partition is sensed locked.
+    #[tactic(auto, unfolding(crate::specs::Session::sensed_locked))]
     pub fn sensed_locked(self, number: usize) -> bool
         ensures { result ≡ sensed_locked self number }
     {
@@ -145,57 +136,42 @@ impl Session {
     }
 
     // The read lock of a partition by its number; it counts where the partition's kind has one.
+    #[tactic(auto, unfolding(crate::specs::Session::read_locked))]
     pub fn read_locked(self, number: usize) -> bool
         ensures { result ≡ read_locked self number }
     {
-        if number < ENTRIES {
-            self.locks[number]
-        } else {
-            false
-        }
+        self.locks.get(number).copied().unwrap_or(false)
     }
 }
 
-impl Answer {
-    // The number of an answer.
-    pub fn code(self) -> u8
-        ensures { result ≡ code_of self }
-    {
-        match self {
-            Answer::Done(_) => 0x00,
-            Answer::NotBlank(_) => 0x04,
-            Answer::Denied => 0x05,
-            Answer::DigestFailed(_) => 0x06,
-            Answer::NotReady => 0x07,
-            Answer::LifeCycleFailed(_) => 0x07,
-            Answer::WrongLength => 0x10,
-            Answer::UnknownTarget => 0x11,
-            Answer::InvalidConstants => 0x12,
-            Answer::StrokesUsed => 0x20,
-            Answer::NotInTable => 0x21,
-            Answer::TokenNotLocked => 0x22,
-            Answer::TokenDiffers => 0x23,
-        }
+// The number of an answer.
+pub fn code_of(answer: Answer) -> u8
+    ensures { result ≡ code_of answer }
+{
+    match answer {
+        Ok(_) => 0x00,
+        Err(Failure::NotBlank(_)) => 0x04,
+        Err(Failure::Denied) => 0x05,
+        Err(Failure::DigestFailed(_)) => 0x06,
+        Err(Failure::NotReady | Failure::LifeCycleFailed(_)) => 0x07,
+        Err(Failure::WrongLength) => 0x10,
+        Err(Failure::UnknownTarget) => 0x11,
+        Err(Failure::InvalidConstants) => 0x12,
+        Err(Failure::StrokesUsed) => 0x20,
+        Err(Failure::NotInTable) => 0x21,
+        Err(Failure::TokenNotLocked) => 0x22,
+        Err(Failure::TokenDiffers) => 0x23,
     }
+}
 
-    // The value that goes with it: 0 unless the paper states one. That of a 4 is the cell.
-    pub fn value(self) -> u64
-        ensures { result ≡ value_of self }
-    {
-        match self {
-            Answer::Done(value) => value,
-            Answer::NotBlank(cell) => cell as u64,
-            Answer::Denied => 0,
-            Answer::DigestFailed(partition) => partition as u64,
-            Answer::NotReady => 0,
-            Answer::LifeCycleFailed(value) => value,
-            Answer::WrongLength => 0,
-            Answer::UnknownTarget => 0,
-            Answer::InvalidConstants => 0,
-            Answer::StrokesUsed => 0,
-            Answer::NotInTable => 0,
-            Answer::TokenNotLocked => 0,
-            Answer::TokenDiffers => 0,
-        }
+// The value that goes with it: 0 unless the paper states one. That of a 4 is the cell.
+pub fn value_of(answer: Answer) -> u64
+    ensures { result ≡ value_of answer }
+{
+    match answer {
+        Ok(value) | Err(Failure::LifeCycleFailed(value)) => value,
+        Err(Failure::NotBlank(cell)) => cell as u64,
+        Err(Failure::DigestFailed(partition)) => partition as u64,
+        Err(_) => 0,
     }
 }

@@ -1,5 +1,6 @@
 -- How a table of cases is proved: the checker computes each row from the definitions, the cipher and the digest being variables; the commands are obeyed, since
 -- lengths and constants are right.
+use Rattle.std.specs.Prelude.{Err}
 use mathlib.Core.Path.{◌≡◌, refl, sym, ap, subst, ◌∙◌}
 use mathlib.Core.Bool.{Bool, true, false}
 use mathlib.Core.List.{List, [], ◌∷◌, ◌++◌, map}
@@ -15,7 +16,7 @@ use Rattle.words.proofs.Words.{number-words}
 use Rattle.partitions.specs.Map.{Map}
 use Rattle.constants.specs.Constants.{valid_constants, raw_unlock_hash}
 use Rattle.life_cycle.specs.Words.{counter_words}
-use Rattle.model.specs.declared.Answer.TheVariants.{TokenDiffers}
+use Rattle.model.specs.declared.Failure.TheVariants.{TokenDiffers}
 use Rattle.model.specs.declared.Command.{Command}
 use Rattle.model.specs.declared.Command.TheVariants.{PowerUp}
 use Rattle.model.specs.Lent.{Machine, Primitives, right_lengths, with_cells}
@@ -106,7 +107,7 @@ module _ (prims : Primitives) (keys : ℕ → ℕ) where
           let cells = program_cells life_cycle_rule powered.lent.cells (counter_at partitions) (counter_words powered.lent.constants 1) in
           let lent = with_cells cells powered.lent in
           performed (with_comparison result
-          (when result then perform (move_act prims partitions powered 1) lent else perform (say TokenDiffers to_inert) lent)) powered
+          (when result then perform (move_act prims partitions powered 1) lent else perform (say (Err TokenDiffers) to_inert) lent)) powered
 
     -- its answers, with those of the commands after it
     abbrev pub unlocked : List Command → Step → List (ℕ × ℕ)

@@ -19,7 +19,7 @@ module _ (prims : Primitives) (keys : ℕ → ℕ) where
   h and k = both prims keys map1 448 h k
 
   transition-is : (stored : ℕ → ℕ) (result : Bool) → same prims keys stored ≡ result
-      → obey prims map1 (Transition 1 0 7) (powered prims keys map1 448 stored) ≡ unlocking prims keys map1 448 stored result
+      → obey prims map1 (Transition 1 7) (powered prims keys map1 448 stored) ≡ unlocking prims keys map1 448 stored result
   unfolding everything
   transition-is stored result e = ap (unlocking prims keys map1 448 stored) e
 
@@ -35,11 +35,11 @@ module _ (prims : Primitives) (keys : ℕ → ℕ) where
             & (
               refl,
               ap (unlocked prims keys map1 448
-                  (Read 0 ∷ Write 0 0 ∷ FrontRead 0x200 ∷ Digest 0x200 ∷ ReadLock 0 ∷ Transition 1 0 7 ∷ PowerUp ∷ [])) right,
+                  (Read 0 ∷ Write 0 0 ∷ FrontRead 0x200 ∷ Digest 0x200 ∷ ReadLock 0 ∷ Transition 1 7 ∷ PowerUp ∷ [])) right,
               tt,
             )
             & (refl, ap (unlocked prims keys map1 448 (PowerUp ∷ [])) wrong, tt) & (refl, refl, tt) & (refl, refl, refl)
-            & (refl, ap (unlocked prims keys map1 448 (PowerUp ∷ Transition 2 0 0 ∷ PowerUp ∷ Transition 3 0 0 ∷ PowerUp ∷ [])) right, tt) &
+            & (refl, ap (unlocked prims keys map1 448 (PowerUp ∷ Transition 2 0 ∷ PowerUp ∷ Transition 3 0 ∷ PowerUp ∷ [])) right, tt) &
             (refl, refl, tt) & tt;
       }
 

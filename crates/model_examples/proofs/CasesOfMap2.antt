@@ -20,7 +20,7 @@ module _ (prims : Primitives) (keys : ℕ → ℕ) where
   h and k = both prims keys map2 740 h k
 
   transition-is : (stored : ℕ → ℕ) (result : Bool) → same prims keys stored ≡ result
-      → obey prims map2 (Transition 1 0 7) (powered prims keys map2 740 stored) ≡ unlocking prims keys map2 740 stored result
+      → obey prims map2 (Transition 1 7) (powered prims keys map2 740 stored) ≡ unlocking prims keys map2 740 stored result
   unfolding everything map2
   transition-is stored result e = ap (unlocking prims keys map2 740 stored) e
 
@@ -36,11 +36,11 @@ module _ (prims : Primitives) (keys : ℕ → ℕ) where
             & (
               refl,
               ap (unlocked prims keys map2 740
-                  (Read 0 ∷ Write 0 0 ∷ FrontRead 0x440 ∷ Digest 0x440 ∷ ReadLock 0 ∷ Transition 1 0 7 ∷ PowerUp ∷ [])) right,
+                  (Read 0 ∷ Write 0 0 ∷ FrontRead 0x440 ∷ Digest 0x440 ∷ ReadLock 0 ∷ Transition 1 7 ∷ PowerUp ∷ [])) right,
               tt,
             )
             & (refl, ap (unlocked prims keys map2 740 (PowerUp ∷ [])) wrong, tt) & (refl, refl, tt) & (refl, refl, refl)
-            & (refl, ap (unlocked prims keys map2 740 (PowerUp ∷ Transition 2 0 0 ∷ PowerUp ∷ Transition 3 0 0 ∷ PowerUp ∷ [])) right, tt) &
+            & (refl, ap (unlocked prims keys map2 740 (PowerUp ∷ Transition 2 0 ∷ PowerUp ∷ Transition 3 0 ∷ PowerUp ∷ [])) right, tt) &
             (refl, refl, tt) & tt;
       }
 

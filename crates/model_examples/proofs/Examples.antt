@@ -1,4 +1,5 @@
 -- Premises are met: computed runs beside the theorems, each handed to the theorem where its conclusion is not plain.
+use Rattle.std.specs.Prelude.{Ok, Err}
 use mathlib.Core.Path.{◌≡◌, refl, sym, subst}
 use mathlib.Core.Bool.{true, false, Bool, ◌&&◌}
 use mathlib.Core.List.{List, [], ◌∷◌, ◌++◌}
@@ -15,7 +16,7 @@ use Rattle.words.specs.Words.{number_of, part_at}
 use Rattle.partitions.specs.Map.{number_at, partition, partition_at, in_digest, first_word, word_count}
 use Rattle.partitions.specs.Map1.{map1}
 use Rattle.partitions.proofs.Maps.{map1-fit}
-use Rattle.model.specs.declared.Answer.TheVariants.{Done, NotBlank, Denied}
+use Rattle.model.specs.declared.Failure.TheVariants.{NotBlank, Denied}
 use Rattle.model.specs.declared.Command.{Command}
 use Rattle.model.specs.declared.Command.TheVariants.{Read, Write, FrontRead, Digest, ReadLock, Transition, PowerUp}
 use Rattle.model.specs.Lent.{Machine}
@@ -85,7 +86,7 @@ allowed = record { below = lit< tt; not_denied = refl; takes = refl }
 wrote : Machine
 wrote = machine_after toy map1 (Write 0x003 0x55) (machine_after toy map1 PowerUp (off blank))
 
-reads-back : answer_to toy map1 (Read 0x000) wrote ≡ Done 0x55
+reads-back : answer_to toy map1 (Read 0x000) wrote ≡ Ok 0x55
 unfolding everything wrote
 reads-back = refl
 
@@ -96,7 +97,7 @@ one-granule = refl
 -- ---- Ready lasts through a refused write to the granule, a read lock elsewhere and a transition that answers 0x11
 
 staying : List Command
-staying = Write 0x002 0xAA ∷ ReadLock 1 ∷ Transition 21 0 0 ∷ []
+staying = Write 0x002 0xAA ∷ ReadLock 1 ∷ Transition 21 0 ∷ []
 
 still-ready : Lasts toy map1 staying wrote
 unfolding everything Lasts staying wrote
@@ -110,7 +111,7 @@ not-read-locked : in_digest (partition_at map1 0x001) 0x001 ≡ false → read_l
 unfolding everything staying wrote
 not-read-locked e = refl
 
-reads-meanwhile : answer_to toy map1 (Read 0x001) (after toy map1 staying wrote) ≡ Done (used_value map1 0x003 0x55)
+reads-meanwhile : answer_to toy map1 (Read 0x001) (after toy map1 staying wrote) ≡ Ok (used_value map1 0x003 0x55)
 unfolding wrote after
 reads-meanwhile =
     (toy-claims.demand3.writes (off blank) (right blank refl) [] [] powered 0x003 0x55 (lit< tt) allowed).1 staying still-ready unwritten 0x001
@@ -118,14 +119,14 @@ reads-meanwhile =
     not-read-locked
 
 -- secret data is scrambled and reads back while it is open
-secret-reads-back : answers toy map1 (PowerUp ∷ Write 0x250 0x77 ∷ Read 0x257 ∷ []) (off blank) ≡ Done 0 ∷ Done 0 ∷ Done 0x77 ∷ []
+secret-reads-back : answers toy map1 (PowerUp ∷ Write 0x250 0x77 ∷ Read 0x257 ∷ []) (off blank) ≡ Ok 0 ∷ Ok 0 ∷ Ok 0x77 ∷ []
 unfolding everything
 secret-reads-back = refl
 
 -- ---- it lasts: a write that clears no bit is refused, a transition and a power-up follow, and 0x001 still reads the same
 
 passing : List Command
-passing = Write 0x002 0xFF ∷ Transition 1 0 7 ∷ PowerUp ∷ []
+passing = Write 0x002 0xFF ∷ Transition 1 7 ∷ PowerUp ∷ []
 
 not-zero : number_of (stored_words toy map1 (off blank).lent.constants 0x003 0x55) ≡ 0 → ⊥
 unfolding everything
@@ -135,7 +136,7 @@ not-old : direct_rule (partition_at map1 0x003) 0x003 ≡ KeepBits → ⊥
 unfolding everything
 not-old e = let z : ◌≡◌ {A = ℕ} 0 1 = cc in omega arith
 
-reads_on : answer_to toy map1 (Read 0x001) (after toy map1 passing wrote) ≡ Done 0x55
+reads_on : answer_to toy map1 (Read 0x001) (after toy map1 passing wrote) ≡ Ok 0x55
 unfolding everything passing wrote
 reads_on = refl
 
@@ -154,13 +155,13 @@ wrote-zero : Machine
 wrote-zero = machine_after toy map1 (Write 0x003 0) (machine_after toy map1 PowerUp (off blank))
 
 not-writing : List Command
-not-writing = Write 0x004 0xFF ∷ Transition 1 0 7 ∷ PowerUp ∷ []
+not-writing = Write 0x004 0xFF ∷ Transition 1 7 ∷ PowerUp ∷ []
 
 passed : NotWritten toy map1 0x003 not-writing wrote-zero
 unfolding everything NotWritten not-writing wrote-zero
 passed = (λ same done. omega arith, (tt, (tt, tt)))
 
-zero-read : answer_to toy map1 (Read 0x001) (after toy map1 not-writing wrote-zero) ≡ Done 0
+zero-read : answer_to toy map1 (Read 0x001) (after toy map1 not-writing wrote-zero) ≡ Ok 0
 unfolding everything not-writing wrote-zero
 zero-read = refl
 
@@ -213,13 +214,13 @@ digest-named : Named toy map1 (after toy map1 (PowerUp ∷ Digest 0x200 ∷ []) 
 unfolding everything
 digest-named = toy-claims.burns.refused (off blank) (PowerUp ∷ Digest 0x200 ∷ []) (Digest 0x200) refl
 
-stroke-named : Named toy map1 (ready 0 (set blank 404 4)) (Transition 1 0 7) 404
+stroke-named : Named toy map1 (ready 0 (set blank 404 4)) (Transition 1 7) 404
 unfolding everything
-stroke-named = toy-claims.burns.refused (ready 0 (set blank 404 4)) [] (Transition 1 0 7) refl
+stroke-named = toy-claims.burns.refused (ready 0 (set blank 404 4)) [] (Transition 1 7) refl
 
-state-named : Named toy map1 (ready 0 (set blank 430 4)) (Transition 1 0 7) 430
+state-named : Named toy map1 (ready 0 (set blank 430 4)) (Transition 1 7) 430
 unfolding everything
-state-named = toy-claims.burns.refused (ready 0 (set blank 430 4)) [] (Transition 1 0 7) refl
+state-named = toy-claims.burns.refused (ready 0 (set blank 430 4)) [] (Transition 1 7) refl
 
 -- ---- a lock: with a digest of 1 written to CREATOR_SW_CFG, the next power-up finds it locked
 
@@ -234,7 +235,7 @@ found-locked : stored_digest (partition map1 0) (after toy map1 locking (off bla
 unfolding everything locking
 found-locked = refl
 
-refused-since : answer_to toy map1 (Write 0x000 0xFF) (after toy map1 (locking ++ PowerUp ∷ []) (off blank)) ≡ Denied
+refused-since : answer_to toy map1 (Write 0x000 0xFF) (after toy map1 (locking ++ PowerUp ∷ []) (off blank)) ≡ Err Denied
 unfolding everything locking
 refused-since = refl
 
@@ -249,7 +250,7 @@ says-locked =
 halves : List Command
 halves = PowerUp ∷ Write 0x0F8 1 ∷ Write 0x0FC 0x100000000 ∷ PowerUp ∷ []
 
-halves-answer : answers toy map1 halves (off blank) ≡ Done 0 ∷ Done 0 ∷ NotBlank 124 ∷ Done 0 ∷ []
+halves-answer : answers toy map1 halves (off blank) ≡ Ok 0 ∷ Ok 0 ∷ Err (NotBlank 124) ∷ Ok 0 ∷ []
 unfolding everything halves
 halves-answer = refl
 
@@ -263,7 +264,7 @@ unfolding everything halves
 stored-whole = refl
 
 -- a write of one half is no source of both
-half-put : Puts map1 0 0x100000001 (Write 0x0FC 0x100000000) (Done 0) → ⊥
+half-put : Puts map1 0 0x100000001 (Write 0x0FC 0x100000000) (Ok 0) → ⊥
 half-put (writes n d e) = omega arith
 
 -- ---- what the table of cases asks: the digest of a blank HW_CFG is a number of 64 bits, and the hash of the token one of 128
@@ -299,14 +300,14 @@ alike = record { at = word }
         (λ t. unfold other in (sym (get_or-set_other one 296 j 5 0 (eqb-false j 296 t))))
 
 trying : List Command
-trying = Read 0x250 ∷ Write 0x250 1 ∷ Digest 0x250 ∷ Read 0x270 ∷ Transition 1 0 7 ∷ []
+trying = Read 0x250 ∷ Write 0x250 1 ∷ Digest 0x250 ∷ Read 0x270 ∷ Transition 1 7 ∷ []
 
 matched : Matched toy map1 (PowerUp ∷ trying) (off one) (off other)
 unfolding everything Matched one other trying
 matched = (tt, (refl, tt), (tt, tt, (tt, tt, (tt, tt, (tt, tt, ((refl, tt), tt, tt))))))
 
 -- both answer this
-both-answer : answers toy map1 (PowerUp ∷ trying) (off other) ≡ Done 0 ∷ Denied ∷ Denied ∷ Denied ∷ Done 1 ∷ Done 0 ∷ []
+both-answer : answers toy map1 (PowerUp ∷ trying) (off other) ≡ Ok 0 ∷ Err Denied ∷ Err Denied ∷ Err Denied ∷ Ok 1 ∷ Ok 0 ∷ []
 unfolding everything one other trying
 both-answer = refl
 
@@ -319,7 +320,7 @@ chips-agree =
 exchanged : List ℕ
 exchanged = set tested 304 9
 
-token-matched : Matched toy map1 (PowerUp ∷ Transition 3 0 0x71 ∷ []) (off tested) (off exchanged)
+token-matched : Matched toy map1 (PowerUp ∷ Transition 3 0x71 ∷ []) (off tested) (off exchanged)
 unfolding everything Matched tested exchanged
 token-matched = (tt, (refl, tt), ((refl, tt), tt, tt))
 
@@ -333,7 +334,7 @@ token-wrong : Asked toy map1 (after toy map1 (PowerUp ∷ []) (off tested)) 3 0x
 unfolding everything tested
 token-wrong = (toy-claims.transitions.tokens (after toy map1 (PowerUp ∷ []) (off tested)) 3 0 0x70).1 refl
 
-third-stroke : (after toy map1 (PowerUp ∷ Transition 3 0 0x70 ∷ []) (off tested)).lent.cells ≡ set tested 406 3
+third-stroke : (after toy map1 (PowerUp ∷ Transition 3 0x70 ∷ []) (off tested)).lent.cells ≡ set tested 406 3
 unfolding everything tested
 third-stroke = refl
 
@@ -342,13 +343,13 @@ third-stroke = refl
 coded : List ℕ
 coded = set (set blank 256 0x1234) 292 1
 
-front-read : answer_to toy map1 (FrontRead 0x200) (after toy map1 (PowerUp ∷ Write 0x200 0xFFFF ∷ PowerUp ∷ []) (off coded)) ≡ Done 0x1234
+front-read : answer_to toy map1 (FrontRead 0x200) (after toy map1 (PowerUp ∷ Write 0x200 0xFFFF ∷ PowerUp ∷ []) (off coded)) ≡ Ok 0x1234
 unfolding everything coded
 front-read = refl
 
 -- ---- a progress: RAW to TEST_UNLOCKED0 spends a stroke and takes an entry of the table
 
-progress-taken : life_cycle_in map1 (after toy map1 (PowerUp ∷ Transition 1 0 7 ∷ []) (off blank)).lent ≡ Valid 1 1
+progress-taken : life_cycle_in map1 (after toy map1 (PowerUp ∷ Transition 1 7 ∷ []) (off blank)).lent ≡ Valid 1 1
 unfolding everything
 progress-taken = refl
 

@@ -1,4 +1,5 @@
 -- Premises of the claims on transitions, digests, read locks, failed power-ups and lists are met: computed runs, and why the premises stand.
+use Rattle.std.specs.Prelude.{Ok, Err}
 use mathlib.Core.Path.{◌≡◌, refl}
 use mathlib.Core.List.{[], ◌∷◌, ◌++◌}
 use Prim.Native.Nat.{◌+◌}
@@ -9,7 +10,7 @@ use Rattle.words.specs.declared.Rule.TheVariants.{KeepBits}
 use Rattle.partitions.specs.Map1.{map1}
 use Rattle.partitions.proofs.Maps.{map1-fit}
 use Rattle.model.specs.declared.Phase.TheVariants.{Ready}
-use Rattle.model.specs.declared.Answer.TheVariants.{Done, Denied, DigestFailed}
+use Rattle.model.specs.declared.Failure.TheVariants.{Denied, DigestFailed}
 use Rattle.model.specs.declared.Command.TheVariants.{Read, Write, Digest, ReadLock, Transition, PowerUp}
 use Rattle.model.specs.Answers.{code_of}
 use Rattle.model.specs.Lent.{Machine, Primitives}
@@ -44,20 +45,20 @@ fair-later : Fair toy map1 (after toy map1 (PowerUp ∷ Write 0 5 ∷ []) (off b
 fair-later = (toy-claims.transitions.fair (off blank) (right blank refl) (Write 0 5 ∷ []) (unfold everything in refl)).0
 
 -- TEST_LOCKED0 to TEST_UNLOCKED1 with SECRET0 open: 0x22, and the stroke is burnt; RAW to TEST_UNLOCKED0 with the right token: 0, and the state words too
-stroke-burnt : Put KeepBits 404 (stroke_words toy map1 (ready 2 blank)) blank (machine_after toy map1 (Transition 3 0 0) (ready 2 blank)).lent.cells
+stroke-burnt : Put KeepBits 404 (stroke_words toy map1 (ready 2 blank)) blank (machine_after toy map1 (Transition 3 0) (ready 2 blank)).lent.cells
 unfolding everything stroke_only
 stroke-burnt = toy-claims.transitions.spent (ready 2 blank) 3 0 0 refl
 
-move-burnt : Put KeepBits 404 (move_words toy map1 (ready 0 blank) 1) blank (machine_after toy map1 (Transition 1 0 7) (ready 0 blank)).lent.cells
+move-burnt : Put KeepBits 404 (move_words toy map1 (ready 0 blank) 1) blank (machine_after toy map1 (Transition 1 7) (ready 0 blank)).lent.cells
 unfolding everything
 move-burnt = toy-claims.transitions.moved (ready 0 blank) 1 0 7 refl
 
 -- a counter word that would lose a bit, and a state word that would
-counter-stopped : Stopped toy map1 (ready 0 (set blank 404 4)) 1 404 (machine_after toy map1 (Transition 1 0 7) (ready 0 (set blank 404 4))).lent.cells
+counter-stopped : Stopped toy map1 (ready 0 (set blank 404 4)) 1 404 (machine_after toy map1 (Transition 1 7) (ready 0 (set blank 404 4))).lent.cells
 unfolding everything
 counter-stopped = toy-claims.transitions.stopped (ready 0 (set blank 404 4)) 1 0 7 refl
 
-state-stopped : Stopped toy map1 (ready 0 (set blank 430 4)) 1 430 (machine_after toy map1 (Transition 1 0 7) (ready 0 (set blank 430 4))).lent.cells
+state-stopped : Stopped toy map1 (ready 0 (set blank 430 4)) 1 430 (machine_after toy map1 (Transition 1 7) (ready 0 (set blank 430 4))).lent.cells
 unfolding everything
 state-stopped = toy-claims.transitions.stopped (ready 0 (set blank 430 4)) 1 0 7 refl
 
@@ -65,16 +66,16 @@ state-stopped = toy-claims.transitions.stopped (ready 0 (set blank 430 4)) 1 0 7
 spent-all : Machine
 spent-all = record { lent = (off blank).lent; session = record { phase = Ready; sensed = no_digests; locks = no_locks; state = 1; count = 24 } }
 
-no-stroke-left : (machine_after toy map1 (Transition 20 0 0) spent-all).lent.cells ≡ blank
+no-stroke-left : (machine_after toy map1 (Transition 20 0) spent-all).lent.cells ≡ blank
 unfolding everything spent-all
 no-stroke-left = toy-claims.transitions.used spent-all 20 0 0 refl
 
 -- RAW to DEV is not in the table: one stroke, state RAW, and the next power-up answers 256
-left-raw : Leaves toy map1 0 1 (machine_after toy map1 (Transition 16 0 0) (after toy map1 (PowerUp ∷ []) (off blank)))
+left-raw : Leaves toy map1 0 1 (machine_after toy map1 (Transition 16 0) (after toy map1 (PowerUp ∷ []) (off blank)))
 unfolding everything stroke_only
 left-raw = (toy-claims.transitions.leaves (off blank) (right blank refl) [] 16 0 0).0 refl
 
-answered-256 : Says 0x00 256 (answer_to toy map1 PowerUp (machine_after toy map1 (Transition 16 0 0) (after toy map1 (PowerUp ∷ []) (off blank))))
+answered-256 : Says 0x00 256 (answer_to toy map1 PowerUp (machine_after toy map1 (Transition 16 0) (after toy map1 (PowerUp ∷ []) (off blank))))
 unfolding everything
 answered-256 = left-raw.answered [] tt refl
 
@@ -106,19 +107,19 @@ written_after =
     (unfold everything summing in (refl, refl))
 
 -- SCRAP after one stroke
-scrapped : Scrapped toy map1 (machine_after toy map1 PowerUp (off blank)) (Transition 20 0 0 ∷ [])
-scrapped = toy-claims.failed_power_ups.sevens (off blank) (right blank refl) (unfold everything in refl) (Transition 20 0 0 ∷ []) (unfold everything in refl)
+scrapped : Scrapped toy map1 (machine_after toy map1 PowerUp (off blank)) (Transition 20 0 ∷ [])
+scrapped = toy-claims.failed_power_ups.sevens (off blank) (right blank refl) (unfold everything in refl) (Transition 20 0 ∷ []) (unfold everything in refl)
 
 -- without a bound on the digest a power-up fails with nothing written: the digest 2 ^ 64 + 1 is stored as 1
 unbounded :
     answers (toy_with (λ words. 0x10000000000000001)) map1 (PowerUp ∷ Digest 0x200 ∷ PowerUp ∷ []) (off blank)
-    ≡ Done 0 ∷ Done 0x10000000000000001 ∷ DigestFailed 2 ∷ []
+    ≡ Ok 0 ∷ Ok 0x10000000000000001 ∷ Err (DigestFailed 2) ∷ []
 unfolding everything
 unbounded = refl
 
 -- ---- read locks: partition 0 is locked, and a read of its data answers 5 after a write
 
-shut : answer_to toy map1 (Read 0) (after toy map1 (Write 4 1 ∷ []) (machine_after toy map1 (ReadLock 0) (after toy map1 (PowerUp ∷ []) (off blank)))) ≡ Denied
+shut : answer_to toy map1 (Read 0) (after toy map1 (Write 4 1 ∷ []) (machine_after toy map1 (ReadLock 0) (after toy map1 (PowerUp ∷ []) (off blank)))) ≡ Err Denied
 unfolding everything
 shut = toy-claims.read_locks.lasts (off blank) (right blank refl) [] 0 refl (Write 4 1 ∷ []) (tt, tt) 0 refl (lit< tt)
 
@@ -126,7 +127,7 @@ shut = toy-claims.read_locks.lasts (off blank) (right blank refl) [] 0 refl (Wri
 without-locks : Machine
 without-locks = record { lent = (off blank).lent; session = record { phase = Ready; sensed = no_digests; locks = []; state = 0; count = 0 } }
 
-locks-nothing : answers toy map1 (ReadLock 0 ∷ Read 0 ∷ []) without-locks ≡ Done 0 ∷ Done 0 ∷ []
+locks-nothing : answers toy map1 (ReadLock 0 ∷ Read 0 ∷ []) without-locks ≡ Ok 0 ∷ Ok 0 ∷ []
 unfolding everything without-locks
 locks-nothing = refl
 

@@ -1,4 +1,5 @@
 -- Computed runs on Map 2, and premises that are met there: AUTH_STATE data and the old rule; tokens, digests and locks at their places in Map 2.
+use Rattle.std.specs.Prelude.{Ok, Err}
 use mathlib.Core.Path.{◌≡◌, refl}
 use mathlib.Core.Bool.{Bool, true, false}
 use mathlib.Core.List.{List, [], ◌∷◌, ◌++◌}
@@ -14,7 +15,7 @@ use Rattle.partitions.specs.Map.{partition_at, first_word, word_count}
 use Rattle.partitions.specs.Map2.{map2}
 use Rattle.partitions.proofs.Maps.{map2-fit}
 use Rattle.model.specs.declared.Phase.TheVariants.{Ready}
-use Rattle.model.specs.declared.Answer.TheVariants.{Done, NotBlank, Denied, DigestFailed, TokenDiffers}
+use Rattle.model.specs.declared.Failure.TheVariants.{NotBlank, Denied, DigestFailed, TokenDiffers}
 use Rattle.model.specs.declared.Command.{Command}
 use Rattle.model.specs.declared.Command.TheVariants.{Read, Write, Transition, PowerUp}
 use Rattle.model.specs.Session.{no_digests}
@@ -63,7 +64,7 @@ unfolding everything map2
 old = toy-claims.old_rule.there (partition_at map2 0x437) 0x437 refl (lit< tt)
 
 -- a write to the granule, and what it makes of the two words
-gained : Gains 0x41B (0 ∷ 0 ∷ []) (Write 0x418 0x0F) (Done 0) (0x0F ∷ 0 ∷ [])
+gained : Gains 0x41B (0 ∷ 0 ∷ []) (Write 0x418 0x0F) (Ok 0) (0x0F ∷ 0 ∷ [])
 unfolding everything map2
 gained = toy-claims.old_rule.granules blank-chip (PowerUp ∷ []) (Write 0x418 0x0F) 0x41B there
 
@@ -93,7 +94,7 @@ lowest : Lowest KeepBits wrote.lent.cells 0x20C (words_of 2 0xF0) 0x20C
 unfolding everything map2 first
 lowest = record { from = omega arith; to = omega arith; refusing = refl; lower = λ j l u. absurd (omega arith) }
 
-cleared : answer_to toy map2 (Write 0x41B 0xF0) wrote ≡ NotBlank 0x20C
+cleared : answer_to toy map2 (Write 0x41B 0xF0) wrote ≡ Err (NotBlank 0x20C)
 unfolding first after
 cleared = (toy-claims.old_rule.refused blank-chip right [] first ready 0x41B 0xF0 there (unfold everything map2 in refl) 0x20C lowest).0
 
@@ -114,7 +115,7 @@ unfolding everything map2 NotWritten not-writing
 unwritten = (λ same done. omega arith, (tt, tt))
 
 reads_on : answer_to toy map2 (Read 0x41A)
-    (after toy map2 not-writing (step toy map2 (Write 0x418 0x0F) (machine_after toy map2 PowerUp blank-chip)).result.machine) ≡ Done 0x0F
+    (after toy map2 not-writing (step toy map2 (Write 0x418 0x0F) (machine_after toy map2 PowerUp blank-chip)).result.machine) ≡ Ok 0x0F
 unfolding everything map2 not-writing
 reads_on = refl
 
@@ -149,11 +150,11 @@ tested-map2 =
     replicate 0x24C 0 ++ (0x71 ∷ 0 ∷ 0 ∷ 0 ∷ 1 ∷ 0 ∷ 0 ∷ 0 ∷ []) ++ replicate 8 0 ++ (1 ∷ replicate 91 0) ++ (3 ∷ 3 ∷ replicate 22 1)
     ++ (3 ∷ 3 ∷ replicate 18 1)
 
-token-taken : answers toy map2 (PowerUp ∷ Transition 3 0 0x71 ∷ PowerUp ∷ []) (off-map2 tested-map2) ≡ Done 514 ∷ Done 0 ∷ Done 771 ∷ []
+token-taken : answers toy map2 (PowerUp ∷ Transition 3 0x71 ∷ PowerUp ∷ []) (off-map2 tested-map2) ≡ Ok 514 ∷ Ok 0 ∷ Ok 771 ∷ []
 unfolding everything map2 tested-map2
 token-taken = refl
 
-token-refused : answers toy map2 (PowerUp ∷ Transition 3 0 0x70 ∷ PowerUp ∷ []) (off-map2 tested-map2) ≡ Done 514 ∷ TokenDiffers ∷ Done 770 ∷ []
+token-refused : answers toy map2 (PowerUp ∷ Transition 3 0x70 ∷ PowerUp ∷ []) (off-map2 tested-map2) ≡ Ok 514 ∷ Err TokenDiffers ∷ Ok 770 ∷ []
 unfolding everything map2 tested-map2
 token-refused = refl
 
@@ -162,8 +163,8 @@ exiting : List ℕ
 exiting = replicate 0x254 0 ++ (0x91 ∷ 0 ∷ 0 ∷ 0 ∷ 1 ∷ 0 ∷ 0 ∷ 0 ∷ []) ++ (1 ∷ replicate 91 0) ++ (3 ∷ replicate 23 1) ++ (3 ∷ replicate 19 1)
 
 exit-taken :
-    (answers toy map2 (PowerUp ∷ Transition 16 0 0x91 ∷ PowerUp ∷ []) (off-map2 exiting) ≡ Done 257 ∷ Done 0 ∷ Done 528 ∷ [])
-    × (answers toy map2 (PowerUp ∷ Transition 16 0 0x90 ∷ PowerUp ∷ []) (off-map2 exiting) ≡ Done 257 ∷ TokenDiffers ∷ Done 513 ∷ [])
+    (answers toy map2 (PowerUp ∷ Transition 16 0x91 ∷ PowerUp ∷ []) (off-map2 exiting) ≡ Ok 257 ∷ Ok 0 ∷ Ok 528 ∷ [])
+    × (answers toy map2 (PowerUp ∷ Transition 16 0x90 ∷ PowerUp ∷ []) (off-map2 exiting) ≡ Ok 257 ∷ Err TokenDiffers ∷ Ok 513 ∷ [])
 unfolding everything map2 exiting
 exit-taken = (refl, refl)
 
@@ -174,20 +175,20 @@ returning =
     ++ (replicate 16 3 ++ replicate 4 1)
 
 rma-taken :
-    (answers toy map2 (PowerUp ∷ Transition 19 0 0x81 ∷ PowerUp ∷ []) (off-map2 returning) ≡ Done 272 ∷ Done 0 ∷ Done 531 ∷ [])
-    × (answers toy map2 (PowerUp ∷ Transition 19 0 0x80 ∷ PowerUp ∷ []) (off-map2 returning) ≡ Done 272 ∷ TokenDiffers ∷ Done 528 ∷ [])
+    (answers toy map2 (PowerUp ∷ Transition 19 0x81 ∷ PowerUp ∷ []) (off-map2 returning) ≡ Ok 272 ∷ Ok 0 ∷ Ok 531 ∷ [])
+    × (answers toy map2 (PowerUp ∷ Transition 19 0x80 ∷ PowerUp ∷ []) (off-map2 returning) ≡ Ok 272 ∷ Err TokenDiffers ∷ Ok 528 ∷ [])
 unfolding everything map2 returning
 rma-taken = (refl, refl)
 
 -- ---- a digest that differs: the partition of the map in use is named, each of 5 to 9, and of two the first
 
 failed-digests-named :
-    (answer_to toy map2 PowerUp (off-map2 (array_with 740 0x240 (2 ∷ []))) ≡ DigestFailed 5)
-    × (answer_to toy map2 PowerUp (off-map2 (array_with 740 0x248 (2 ∷ []))) ≡ DigestFailed 6)
-    × (answer_to toy map2 PowerUp (off-map2 (array_with 740 0x25C (2 ∷ []))) ≡ DigestFailed 7)
-    × (answer_to toy map2 PowerUp (off-map2 (array_with 740 0x288 (2 ∷ []))) ≡ DigestFailed 8)
-    × (answer_to toy map2 PowerUp (off-map2 (array_with 740 0x2B4 (2 ∷ []))) ≡ DigestFailed 9)
-    × (answer_to toy map2 PowerUp (off-map2 (set (array_with 740 0x248 (2 ∷ [])) 0x288 2)) ≡ DigestFailed 6)
+    (answer_to toy map2 PowerUp (off-map2 (array_with 740 0x240 (2 ∷ []))) ≡ Err (DigestFailed 5))
+    × (answer_to toy map2 PowerUp (off-map2 (array_with 740 0x248 (2 ∷ []))) ≡ Err (DigestFailed 6))
+    × (answer_to toy map2 PowerUp (off-map2 (array_with 740 0x25C (2 ∷ []))) ≡ Err (DigestFailed 7))
+    × (answer_to toy map2 PowerUp (off-map2 (array_with 740 0x288 (2 ∷ []))) ≡ Err (DigestFailed 8))
+    × (answer_to toy map2 PowerUp (off-map2 (array_with 740 0x2B4 (2 ∷ []))) ≡ Err (DigestFailed 9))
+    × (answer_to toy map2 PowerUp (off-map2 (set (array_with 740 0x248 (2 ∷ [])) 0x288 2)) ≡ Err (DigestFailed 6))
 unfolding everything map2
 failed-digests-named = (refl, refl, refl, refl, refl, refl)
 
@@ -195,7 +196,7 @@ failed-digests-named = (refl, refl, refl, refl, refl, refl)
 digest-unchecked :
     answers toy map2 (PowerUp ∷ Write 0x000 1 ∷ Write 0x040 1 ∷ Write 0x140 1 ∷ Write 0x240 1 ∷ Write 0x418 1 ∷ [])
     (off-map2 (set (set (set (set (set (replicate 740 0) 0x01C 2) 0x09C 2) 0x11C 2) 0x208 2) 0x21C 2))
-    ≡ Done 0 ∷ Denied ∷ Denied ∷ Denied ∷ Denied ∷ Denied ∷ []
+    ≡ Ok 0 ∷ Err Denied ∷ Err Denied ∷ Err Denied ∷ Err Denied ∷ Err Denied ∷ []
 unfolding everything map2
 digest-unchecked = refl
 
@@ -206,7 +207,7 @@ with-locks lock = record { lent = blank-chip.lent; session = record { phase = Re
 
 locks-that-count : answers toy map2 (Read 0x000 ∷ Read 0x040 ∷ Read 0x140 ∷ Read 0x240 ∷ Read 0x418 ∷ Read 0x440 ∷ Read 0x488 ∷ Read 0x498 ∷ [])
     (with-locks true)
-    ≡ Denied ∷ Denied ∷ Denied ∷ Denied ∷ Denied ∷ Done 0 ∷ Done 0 ∷ Done 1 ∷ []
+    ≡ Err Denied ∷ Err Denied ∷ Err Denied ∷ Err Denied ∷ Err Denied ∷ Ok 0 ∷ Ok 0 ∷ Ok 1 ∷ []
 unfolding everything map2
 locks-that-count = refl
 

@@ -1,4 +1,5 @@
 -- Premises of the claims in the papers' numbers are met: computed runs.
+use Rattle.std.specs.Prelude.{Ok}
 use mathlib.Core.Path.{◌≡◌, refl}
 use mathlib.Core.Bool.{true}
 use mathlib.Core.List.{List, [], ◌∷◌}
@@ -11,7 +12,6 @@ use Rattle.words.specs.Words.{number_of, part_at}
 use Rattle.partitions.specs.declared.Kind.{Kind}
 use Rattle.partitions.specs.Map.{partition}
 use Rattle.partitions.specs.Map1.{map1}
-use Rattle.model.specs.declared.Answer.TheVariants.{Done}
 use Rattle.model.specs.declared.Command.TheVariants.{Read, FrontRead, Digest, ReadLock, PowerUp}
 use Rattle.model.specs.Lent.{Machine}
 use Rattle.model.specs.Answers.{code_of}
@@ -70,7 +70,7 @@ in-hw-cfg : InHwCfgData map1 0x203
 unfolding everything
 in-hw-cfg = record { below = lit< tt; is_hw_cfg = refl; is_data = lit< tt }
 
-front-shown : answer_to toy map1 (FrontRead 0x203) (ready 0 blank) ≡ Done (number_of (part_at (ready 0 blank).lent.copy 256 2))
+front-shown : answer_to toy map1 (FrontRead 0x203) (ready 0 blank) ≡ Ok (number_of (part_at (ready 0 blank).lent.copy 256 2))
 front-shown = (toy-claims.reads.front_read (ready 0 blank) ready-inputs refl 0x203).0 in-hw-cfg
 
 -- ---- a digest location that is not blank: word 293 is named; a read lock of a partition without one: 5

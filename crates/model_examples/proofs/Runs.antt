@@ -1,5 +1,6 @@
 -- Computed runs of rules that the table of cases does not show: tokens of a locked partition, digests, second burns, read locks, power-ups that fail, and
 -- records that no power-up leaves.
+use Rattle.std.specs.Prelude.{Ok, Err}
 use mathlib.Core.Path.{◌≡◌, refl}
 use mathlib.Core.List.{List, [], ◌∷◌, ◌++◌}
 use Prim.Native.Nat.{ℕ}
@@ -7,7 +8,7 @@ use lib.ListN.{get_or, set, replicate}
 use Rattle.partitions.specs.Map1.{map1}
 use Rattle.model.specs.declared.Reason.TheVariants.{BitCleared}
 use Rattle.model.specs.declared.Phase.TheVariants.{Dead}
-use Rattle.model.specs.declared.Answer.TheVariants.{Done, NotBlank, Denied, DigestFailed, NotReady, LifeCycleFailed, UnknownTarget, TokenDiffers}
+use Rattle.model.specs.declared.Failure.TheVariants.{NotBlank, Denied, DigestFailed, NotReady, LifeCycleFailed, UnknownTarget, TokenDiffers}
 use Rattle.model.specs.declared.Command.TheVariants.{Read, Write, FrontRead, Digest, ReadLock, Transition, PowerUp}
 use Rattle.model.specs.Lent.{Primitives}
 use Rattle.model.specs.Step.{step, after, answers, machine_after, answer_to}
@@ -17,11 +18,11 @@ use Rattle.model.proofs.ToyChip.{toy_with, toy, off, ready, tested}
 
 -- ---- a token of a locked partition: TEST_LOCKED0 goes to TEST_UNLOCKED1
 
-token-taken : answers toy map1 (PowerUp ∷ Transition 3 0 0x71 ∷ PowerUp ∷ []) (off tested) ≡ Done 514 ∷ Done 0 ∷ Done 771 ∷ []
+token-taken : answers toy map1 (PowerUp ∷ Transition 3 0x71 ∷ PowerUp ∷ []) (off tested) ≡ Ok 514 ∷ Ok 0 ∷ Ok 771 ∷ []
 unfolding everything tested
 token-taken = refl
 
-token-refused : answers toy map1 (PowerUp ∷ Transition 3 0 0x70 ∷ PowerUp ∷ []) (off tested) ≡ Done 514 ∷ TokenDiffers ∷ Done 770 ∷ []
+token-refused : answers toy map1 (PowerUp ∷ Transition 3 0x70 ∷ PowerUp ∷ []) (off tested) ≡ Ok 514 ∷ Err TokenDiffers ∷ Ok 770 ∷ []
 unfolding everything tested
 token-refused = refl
 
@@ -32,33 +33,33 @@ lowest = toy_with (λ words. get_or words 0 0)
 
 digest-taken :
     answers lowest map1 (PowerUp ∷ Write 0x250 0x40 ∷ Digest 0x250 ∷ Write 0x258 0x40 ∷ PowerUp ∷ Read 0x250 ∷ Read 0x270 ∷ []) (chip lowest (λ i. 0) blank)
-    ≡ Done 0 ∷ Done 0 ∷ Done 0x41 ∷ Done 0 ∷ Done 0 ∷ Denied ∷ Done 0x41 ∷ []
+    ≡ Ok 0 ∷ Ok 0 ∷ Ok 0x41 ∷ Ok 0 ∷ Ok 0 ∷ Err Denied ∷ Ok 0x41 ∷ []
 unfolding everything
 digest-taken = refl
 
 -- "A computed zero is no error and locks nothing."
 zero-digest :
     answers (toy_with (λ words. 0)) map1 (PowerUp ∷ Digest 0x200 ∷ PowerUp ∷ Write 0x200 1 ∷ Digest 0x200 ∷ []) (chip (toy_with (λ words. 0)) (λ i. 0) blank)
-    ≡ Done 0 ∷ Done 0 ∷ Done 0 ∷ Done 0 ∷ Done 0 ∷ []
+    ≡ Ok 0 ∷ Ok 0 ∷ Ok 0 ∷ Ok 0 ∷ Ok 0 ∷ []
 unfolding everything
 zero-digest = refl
 
 -- ---- no second burn (request Three): a digest command on a digest that is there, though it computes the same
 
-digest-again : answers toy map1 (PowerUp ∷ Digest 0x200 ∷ Digest 0x200 ∷ []) (off blank) ≡ Done 0 ∷ Done 1 ∷ NotBlank 292 ∷ []
+digest-again : answers toy map1 (PowerUp ∷ Digest 0x200 ∷ Digest 0x200 ∷ []) (off blank) ≡ Ok 0 ∷ Ok 1 ∷ Err (NotBlank 292) ∷ []
 unfolding everything
 digest-again = refl
 
 -- "a zero in a secret granule is stored scrambled, and burns": here as 1
-zero-scrambled : answers toy map1 (PowerUp ∷ Write 0x250 0 ∷ Write 0x250 0 ∷ Read 0x250 ∷ []) (off blank) ≡ Done 0 ∷ Done 0 ∷ NotBlank 296 ∷ Done 0 ∷ []
+zero-scrambled : answers toy map1 (PowerUp ∷ Write 0x250 0 ∷ Write 0x250 0 ∷ Read 0x250 ∷ []) (off blank) ≡ Ok 0 ∷ Ok 0 ∷ Err (NotBlank 296) ∷ Ok 0 ∷ []
 unfolding everything
 zero-scrambled = refl
 
 -- ".. unless that form is zero too": here that of 1
 scrambled-zero :
-    (answers toy map1 (PowerUp ∷ Write 0x250 1 ∷ Read 0x250 ∷ []) (off blank) ≡ Done 0 ∷ Done 0 ∷ Done 1 ∷ [])
+    (answers toy map1 (PowerUp ∷ Write 0x250 1 ∷ Read 0x250 ∷ []) (off blank) ≡ Ok 0 ∷ Ok 0 ∷ Ok 1 ∷ [])
     × ((after toy map1 (PowerUp ∷ Write 0x250 1 ∷ []) (off blank)).lent.cells ≡ blank)
-    × (answers toy map1 (PowerUp ∷ Write 0x250 1 ∷ Write 0x250 5 ∷ Read 0x250 ∷ []) (off blank) ≡ Done 0 ∷ Done 0 ∷ Done 0 ∷ Done 5 ∷ [])
+    × (answers toy map1 (PowerUp ∷ Write 0x250 1 ∷ Write 0x250 5 ∷ Read 0x250 ∷ []) (off blank) ≡ Ok 0 ∷ Ok 0 ∷ Ok 0 ∷ Ok 5 ∷ [])
 unfolding everything
 scrambled-zero = (refl, refl, refl)
 
@@ -66,7 +67,7 @@ scrambled-zero = (refl, refl, refl)
 
 locks-last :
     answers toy map1 (PowerUp ∷ ReadLock 1 ∷ ReadLock 1 ∷ Read 0x100 ∷ PowerUp ∷ Read 0x100 ∷ ReadLock 2 ∷ []) (off blank)
-    ≡ Done 0 ∷ Done 0 ∷ Done 0 ∷ Denied ∷ Done 0 ∷ Done 0 ∷ Denied ∷ []
+    ≡ Ok 0 ∷ Ok 0 ∷ Ok 0 ∷ Err Denied ∷ Ok 0 ∷ Ok 0 ∷ Err Denied ∷ []
 unfolding everything
 locks-last = refl
 
@@ -75,21 +76,21 @@ locks-last = refl
 scrapped : List ℕ
 scrapped = replicate 404 0 ++ (3 ∷ replicate 23 1) ++ replicate 20 3
 
-scrap-found : answers toy map1 (PowerUp ∷ Read 0 ∷ []) (off scrapped) ≡ LifeCycleFailed 276 ∷ NotReady ∷ []
+scrap-found : answers toy map1 (PowerUp ∷ Read 0 ∷ []) (off scrapped) ≡ Err (LifeCycleFailed 276) ∷ Err NotReady ∷ []
 unfolding everything scrapped
 scrap-found = refl
 
 damaged : List ℕ
 damaged = set scrapped 430 2
 
-invalid-found : answers toy map1 (PowerUp ∷ FrontRead 0x200 ∷ []) (off damaged) ≡ LifeCycleFailed 0xFFFF ∷ NotReady ∷ []
+invalid-found : answers toy map1 (PowerUp ∷ FrontRead 0x200 ∷ []) (off damaged) ≡ Err (LifeCycleFailed 0xFFFF) ∷ Err NotReady ∷ []
 unfolding everything scrapped damaged
 invalid-found = refl
 
 forged : List ℕ
 forged = set (set blank 292 1) 312 2
 
-digest-found : answers toy map1 (PowerUp ∷ Write 0 1 ∷ []) (off forged) ≡ DigestFailed 3 ∷ NotReady ∷ []
+digest-found : answers toy map1 (PowerUp ∷ Write 0 1 ∷ []) (off forged) ≡ Err (DigestFailed 3) ∷ Err NotReady ∷ []
 unfolding everything forged
 digest-found = refl
 
@@ -102,25 +103,25 @@ copy-zeroed = refl
 
 -- "A 4 at either programming leaves that step's words alone": a counter word that refuses
 stroke-refused :
-    (answer_to toy map1 (Transition 1 0 7) (ready 0 (set blank 404 4)) ≡ NotBlank 404)
-    × ((machine_after toy map1 (Transition 1 0 7) (ready 0 (set blank 404 4))).lent.cells ≡ set blank 404 4)
-    × ((machine_after toy map1 (Transition 1 0 7) (ready 0 (set blank 404 4))).session.phase ≡ Dead BitCleared)
+    (answer_to toy map1 (Transition 1 7) (ready 0 (set blank 404 4)) ≡ Err (NotBlank 404))
+    × ((machine_after toy map1 (Transition 1 7) (ready 0 (set blank 404 4))).lent.cells ≡ set blank 404 4)
+    × ((machine_after toy map1 (Transition 1 7) (ready 0 (set blank 404 4))).session.phase ≡ Dead BitCleared)
 unfolding everything
 stroke-refused = (refl, refl, refl)
 
 -- a state word that refuses, once the stroke is spent: the counter words stand
 state-refused :
-    (answer_to toy map1 (Transition 1 0 7) (ready 0 (set blank 430 4)) ≡ NotBlank 430)
-    × ((machine_after toy map1 (Transition 1 0 7) (ready 0 (set blank 430 4))).lent.cells
+    (answer_to toy map1 (Transition 1 7) (ready 0 (set blank 430 4)) ≡ Err (NotBlank 430))
+    × ((machine_after toy map1 (Transition 1 7) (ready 0 (set blank 430 4))).lent.cells
     ≡ replicate 404 0 ++ (3 ∷ replicate 23 1) ++ (0 ∷ 0 ∷ 4 ∷ replicate 17 0))
 unfolding everything
 state-refused = (refl, refl)
 
 -- 7 for a record's state above 20, before 0x11 for the target; 0x11 changes nothing
-record-above : answer_to toy map1 (Transition 21 0 7) (ready 21 blank) ≡ NotReady
+record-above : answer_to toy map1 (Transition 21 7) (ready 21 blank) ≡ Err NotReady
 unfolding everything
 record-above = refl
 
-target-above : (step toy map1 (Transition 21 0 7) (ready 0 blank)).result ≡ record { machine = ready 0 blank; answer = UnknownTarget }
+target-above : (step toy map1 (Transition 21 7) (ready 0 blank)).result ≡ record { machine = ready 0 blank; answer = Err UnknownTarget }
 unfolding everything
 target-above = refl

@@ -1,4 +1,4 @@
-pub mod Sums
+pub mod Groups
 pub mod Boxes
 pub mod Permutation
 pub mod Lookups

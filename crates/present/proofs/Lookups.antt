@@ -12,7 +12,7 @@ use Rattle.basics.proofs.Range.{listed_at}
 use Rattle.basics.proofs.Digits.{digit_lt, number_lt}
 use Rattle.present.specs.Present.{s_box, s_box_inverse, substitute, permute, permute_back}
 use Rattle.present.specs.Tables.{table_of, lookups}
-use Rattle.present.proofs.Sums.{sixteen-power}
+use Rattle.present.proofs.Groups.{sixteen-power}
 use Rattle.present.proofs.Boxes.{s_box-lt, s_box_inverse-lt}
 use Rattle.present.proofs.Permutation.{permute-xor, permute_back-xor}
 

@@ -1,11 +1,11 @@
 // The constant tables of the rounds: an entry for each place of a group of four bits and each value of the group. Entry 16 * i + v is for
-// group i with the value v. A caller makes a table once and lends it down, since a constant that is indexed is built anew at each use.
+// group i with the value v. Each is a `static`, which is never built at run time; a constant that is indexed is built anew at each use.
 ghost use Rattle.std.specs.Prelude.{◌≡◌};
 ghost use Rattle.present.specs.Present.{s_box, permute, s_box_inverse, permute_back};
 ghost use Rattle.present.specs.Tables.{table_of};
 
 // What a group gives after the S-box and the permutation.
-const ROUND: [u64; 256] = [
+static ROUND: [u64; 256] = [
     // group 0
     0x0001_0001_0000_0000,
     0x0000_0001_0000_0001,
@@ -281,7 +281,7 @@ const ROUND: [u64; 256] = [
 ];
 
 // What a group gives after the inverse S-box and the permutation back.
-const INVERSE: [u64; 256] = [
+static INVERSE: [u64; 256] = [
     // group 0
     0x0000_0000_0000_0101,
     0x0000_0000_0000_1110,
@@ -557,15 +557,15 @@ const INVERSE: [u64; 256] = [
 ];
 
 // The table of a round of encryption.
-pub(crate) fn round_table() -> [u64; 256]
-    ensures { result ≡ table_of s_box permute }
+pub(crate) fn round_table() -> &'static [u64; 256]
+    ensures { result.now ≡ table_of s_box permute }
 {
-    ROUND
+    &ROUND
 }
 
 // The table of a round of decryption.
-pub(crate) fn inverse_table() -> [u64; 256]
-    ensures { result ≡ table_of s_box_inverse permute_back }
+pub(crate) fn inverse_table() -> &'static [u64; 256]
+    ensures { result.now ≡ table_of s_box_inverse permute_back }
 {
-    INVERSE
+    &INVERSE
 }

@@ -3,35 +3,52 @@ use mathlib.Core.Path.{◌≡◌, refl, sym, ap, ap₂, ◌∙◌}
 use mathlib.Core.Bool.{Bool, true, false}
 use mathlib.Core.List.{List, [], ◌∷◌, ◌++◌, append-nil, append_assoc}
 use Prim.Native.Nat.{ℕ, suc, ◌+◌, ◌≤◌, ◌<◌}
-use native.Mathlib.Nat.{add-zero, add-suc}
+use native.Mathlib.Nat.{add-zero, add-suc, zero-add}
+use native.Mathlib.Numerals.{add-one}
 use native.Mathlib.Omega.{arith}
 use lib.Dec.{ltb}
 use lib.ListN.{length, get_or, set, take, drop, length-drop, length-set, take-append-drop, get_or-eq_default}
 use lib.Seq.{sets, sets-eq, get_or-take, get_or-drop, drop-drop, drop-length, drop-cons, take_all, length-take-le}
 use borrow.Author.Tests.{ltb-true, ltb-false}
+use Rattle.std.specs.Prelude.{Option, Some, None, Result, Ok, Err, ⊤, cond, position, zip, MatchResult, IsErrAnd}
+use Rattle.std.proofs.lemmas.Result.{err_from_is_err_and}
+use Rattle.std.specs.List.{position_from}
+use Rattle.std.proofs.lemmas.Iterator.Adapters.{position_from-zero}
 use Rattle.basics.specs.Choice.{when◌then◌else◌}
 use Rattle.basics.proofs.Choice.{by_cases}
 use Rattle.words.specs.declared.Rule.{Rule}
-use Rattle.words.specs.declared.Programmed.{Programmed}
-use Rattle.words.specs.declared.Programmed.TheVariants.{Done, Refused}
 use Rattle.words.specs.Programming.{refuses, program_answer, program_cells}
 use Rattle.words.proofs.Parts.{sets-past}
 use Rattle.words.proofs.Programming.{answer-next, answer-stop, by_answer, append-stop, append-next, blank-done, refused-lowest, stored-done}
 use Rattle.words.proofs.Programming.{stored_refused}
 
--- ---- the loop over a part: one word more is tested
+-- ---- the search over a part: what it finds is the answer
 
-pub tested-next : (rule : Rule) (ss vs : List ℕ) (i : ℕ) → i < length vs → refuses rule (get_or ss i 0) (get_or vs i 0) ≡ false
-    → program_answer rule ss i (drop i vs) ≡ program_answer rule ss (suc i) (drop (suc i) vs)
-tested-next rule ss vs i h e = rw (drop-cons vs i 0 h) (answer-next rule ss (drop (suc i) vs) i (get_or vs i 0) e)
+-- the answer that names a word that was found
+abbrev pub named : Option ℕ → Result ⊤ ℕ
+named None = Ok tt
+named (Some i) = Err i
 
-pub tested-stop : (rule : Rule) (ss vs : List ℕ) (i : ℕ) → i < length vs → refuses rule (get_or ss i 0) (get_or vs i 0) ≡ true
-    → program_answer rule ss i (drop i vs) ≡ Refused i
-tested-stop rule ss vs i h e = rw (drop-cons vs i 0 h) (answer-stop rule ss (drop (suc i) vs) i (get_or vs i 0) e)
+named_if : (b : Bool) (x y : Option ℕ) → (when b then named x else named y) ≡ named (cond b x y)
+unfolding when◌then◌else◌
+named_if true x y = refl
+named_if false x y = refl
 
-pub tested-end : (rule : Rule) (ss vs : List ℕ) → program_answer rule ss (length vs) (drop (length vs) vs) ≡ Done
+searched-from : (rule : Rule) (ss vs c : List ℕ) (i : ℕ) → length ss ≡ length vs → ((j : ℕ) → j < length ss → get_or c (i + j) 0 ≡ get_or ss j 0)
+    → program_answer rule c i vs ≡ named (position_from (λ p. refuses rule p.0 p.1) i (zip ss vs))
 unfolding program_answer
-tested-end rule ss vs = rw (drop-length vs)
+searched-from rule [] [] c i e h = refl
+searched-from rule [] (v ∷ vs) c i e h = absurd (omega arith)
+searched-from rule (s ∷ ss) [] c i e h = absurd (omega arith)
+searched-from rule (s ∷ ss) (v ∷ vs) c i e h =
+    let here : get_or c i 0 ≡ s = rw add-zero at (h 0 (omega arith)) in
+    let rest = searched-from rule ss vs c (i + 1) (omega arith) (λ j l. (let q : i + 1 + j ≡ i + suc j = omega arith in rw q (h (suc j) (omega arith)))) in
+    rw (← add-one i, here, rest) (named_if (refuses rule s v) (Some i) _)
+
+pub searched : (rule : Rule) (ss vs : List ℕ) → length ss ≡ length vs
+    → program_answer rule ss 0 vs ≡ named (position (λ p. refuses rule p.0 p.1) (zip ss vs))
+searched rule ss vs e =
+    searched-from rule ss vs ss 0 e (λ j l. rw zero-add) ∙ ap named (sym (position_from-zero (λ p. refuses rule p.0 p.1) (zip ss vs)))
 
 -- the whole part becomes the value
 pub sets-whole : (ss vs : List ℕ) → length ss ≡ length vs → sets ss 0 vs ≡ vs
@@ -42,10 +59,10 @@ sets-whole ss vs e =
 
 -- ---- a value that reaches past the last cell
 
-past-done : (rule : Rule) (vs c : List ℕ) (at : ℕ) → length c ≤ at → program_answer rule c at vs ≡ Done
+past-done : (rule : Rule) (vs c : List ℕ) (at : ℕ) → length c ≤ at → program_answer rule c at vs ≡ Ok tt
 past-done rule vs c at h = blank-done rule vs c at (λ j l u. get_or-eq_default c 0 {n = j} (omega arith))
 
-pub past-cells : (rule : Rule) (c vs : List ℕ) (at : ℕ) → length c ≤ at → (Done ≡ program_answer rule c at vs) × (c ≡ program_cells rule c at vs)
+pub past-cells : (rule : Rule) (c vs : List ℕ) (at : ℕ) → length c ≤ at → (Ok tt ≡ program_answer rule c at vs) × (c ≡ program_cells rule c at vs)
 past-cells rule c vs at h = (sym (past-done rule vs c at h), sym (stored-done rule c vs at (past-done rule vs c at h) ∙ sets-past vs c at h))
 
 front-answer : (rule : Rule) (xs ys c : List ℕ) (at : ℕ) → length c ≤ at + length xs → program_answer rule c at (xs ++ ys) ≡ program_answer rule c at xs
@@ -60,11 +77,11 @@ front-sets (x ∷ xs) ys c at h = front-sets xs ys (set c at x) (suc at) (rw len
 -- ---- the part that is lent, against the whole array
 
 -- an answer counted from the part's start, counted over the array
-abbrev pub counted : ℕ → Programmed → Programmed
-counted at Done = Done
-counted at (Refused i) = Refused (at + i)
+abbrev pub counted : ℕ → Result ⊤ ℕ → Result ⊤ ℕ
+counted at (Ok done) = Ok done
+counted at (Err i) = Err (at + i)
 
-counted_if : (b : Bool) (at : ℕ) (x y : Programmed) → counted at (when b then x else y) ≡ (when b then counted at x else counted at y)
+counted_if : (b : Bool) (at : ℕ) (x y : Result ⊤ ℕ) → counted at (when b then x else y) ≡ (when b then counted at x else counted at y)
 unfolding when◌then◌else◌
 counted_if true at x y = refl
 counted_if false at x y = refl
@@ -74,9 +91,9 @@ part-answer : (rule : Rule) (vs c p : List ℕ) (at i : ℕ) → ((j : ℕ) → 
 unfolding program_answer
 part-answer rule [] c p at i h = refl
 part-answer rule (v ∷ vs) c p at i h =
-    ap₂ (λ (x : ℕ) (r : Programmed). when refuses rule x v then Refused (at + i) else r) (h i (omega arith) (omega arith))
+    ap₂ (λ (x : ℕ) (r : Result ⊤ ℕ). when refuses rule x v then Err (at + i) else r) (h i (omega arith) (omega arith))
     (ap (λ (n : ℕ). program_answer rule c n vs) (sym (add-suc at i)) ∙ part-answer rule vs c p at (suc i) (λ j l u. h j (omega arith) (omega arith)))
-    ∙ sym (counted_if (refuses rule (get_or p i 0) v) at (Refused i) (program_answer rule p (suc i) vs))
+    ∙ sym (counted_if (refuses rule (get_or p i 0) v) at (Err i) (program_answer rule p (suc i) vs))
 
 -- the n cells from `at` on are lent with the lowest n words of the value; n is short of the value only where the array ends
 module _ (rule : Rule) (c vs : List ℕ) (at n : ℕ) (inside : at + n ≤ length c) (some : n ≤ length vs) (all : n < length vs → length c ≤ at + n) where
@@ -108,7 +125,7 @@ module _ (rule : Rule) (c vs : List ℕ) (at n : ℕ) (inside : at + n ≤ lengt
   abbrev back : List ℕ → List ℕ
   back x = take at c ++ (x ++ drop n (drop at c))
 
-  done-cells : program_answer rule part 0 value ≡ Done → back (program_cells rule part 0 value) ≡ program_cells rule c at vs
+  done-cells : program_answer rule part 0 value ≡ Ok tt → back (program_cells rule part 0 value) ≡ program_cells rule c at vs
   done-cells e =
       ap back (stored-done rule part value 0 e ∙ sets-whole part value same-lengths)
       ∙ ap (λ (x : List ℕ). take at c ++ (value ++ x)) (drop-drop n at c ∙ ap (λ (k : ℕ). drop (at + k) c) (sym value-length))
@@ -117,7 +134,7 @@ module _ (rule : Rule) (c vs : List ℕ) (at n : ℕ) (inside : at + n ≤ lengt
       ∙ sym (left-out (sets c at) (front-sets value (drop n vs) c at))
       ∙ sym (stored-done rule c vs at (sym lent-answer ∙ ap (counted at) e))
 
-  refused-cells : (i : ℕ) → program_answer rule part 0 value ≡ Refused i → back (program_cells rule part 0 value) ≡ program_cells rule c at vs
+  refused-cells : (i : ℕ) → program_answer rule part 0 value ≡ Err i → back (program_cells rule part 0 value) ≡ program_cells rule c at vs
   refused-cells i e =
       ap back (stored_refused rule part value 0 i e)
       ∙ ap (λ (x : List ℕ). take at c ++ x) (take-append-drop n (drop at c))
@@ -125,13 +142,13 @@ module _ (rule : Rule) (c vs : List ℕ) (at n : ℕ) (inside : at + n ≤ lengt
       ∙ sym (stored_refused rule c vs at (at + i) (sym lent-answer ∙ ap (counted at) e))
 
   -- as code meets them: the part of k cells has been programmed and handed back
-  pub handed-back : (k : ℕ) → k ≡ n → {r : Programmed} {new : List ℕ}
+  pub handed-back : (k : ℕ) → k ≡ n → {r : Result ⊤ ℕ} {new : List ℕ}
       → r ≡ program_answer rule (take k (drop at c)) 0 value → new ≡ program_cells rule (take k (drop at c)) 0 value
       → (counted at r ≡ program_answer rule c at vs) × (take at c ++ (new ++ drop k (drop at c)) ≡ program_cells rule c at vs)
   handed-back k e a b = rw (a, b, e) (lent-answer, by_answer (program_answer rule part 0 value) done-cells refused-cells)
 
-  -- a refusing word lies within the part
-  pub refused-within : (k : ℕ) → k ≡ n → (i : ℕ) → program_answer rule (take k (drop at c)) 0 value ≡ Refused i → i < n
-  refused-within k e i a =
-      let l = refused-lowest rule value (take k (drop at c)) 0 i a in
-      omega (arith, l.to, value-length)
+-- as `map_err` counts an answer over the array
+pub counted-by : {Q : ℕ → ℕ → Type 0} (at : ℕ) (r s : Result ⊤ ℕ) → MatchResult r (λ x. s ≡ Ok x) (λ i. IsErrAnd s (Q i))
+    → ((i k : ℕ) → Q i k → k ≡ at + i) → s ≡ counted at r
+counted-by at (Ok x) s h k = h
+counted-by at (Err i) s h k = let p = err_from_is_err_and s h in p.1 ∙ ap Err (k i _ p.2)

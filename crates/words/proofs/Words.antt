@@ -1,12 +1,19 @@
 -- Laws of words and numbers, over the number of words. The idea: one word is one digit to the base 65536, so each law is an induction on the words.
 use mathlib.Core.Path.{◌≡◌, refl, ap, ◌∙◌}
-use mathlib.Core.List.{List, [], ◌∷◌}
+use mathlib.Core.List.{List, [], ◌∷◌, reverse, reverse-cons}
 use Prim.Native.Nat.{ℕ, zero, suc, ◌+◌, ◌*◌, ◌/◌, ◌%◌, ◌^◌, ◌≤◌, ◌<◌}
 use native.Mathlib.Nat.{pow-suc, pow-le-pow_right, lt_of_lt_of_le, mod-eq_of_lt}
 use native.Mathlib.Omega.{arith}
+use lib.Bits.{bit_or}
 use lib.Pow.{mod-pow-add}
-use lib.ListN.{length, get_or, take, drop, length-drop}
-use lib.Seq.{drop-cons, get_or-drop}
+use lib.Dec.{ltb}
+use lib.ListN.{length, get_or, take, length-take, get_or-eq_default}
+use lib.Seq.{get_or-take}
+use borrow.Author.Tests.{ltb-true, ltb-false}
+use Rattle.std.specs.Prelude.{fold}
+use Rattle.std.proofs.lemmas.List.Sums.{fold-append}
+use Rattle.std.proofs.lemmas.Nat.{or_shifted}
+use Rattle.basics.proofs.Choice.{by_cases}
 use Rattle.words.specs.Words.{number_of, words_of}
 
 -- a list of words of 16 bits
@@ -16,8 +23,11 @@ pub record Words (ws : List ℕ) : Type 0 where
 pub words_tail : {w : ℕ} {ws : List ℕ} → Words (w ∷ ws) → Words ws
 words_tail h = record { small = λ i. h.small (suc i) }
 
-pub words-drop : (n : ℕ) {ws : List ℕ} → Words ws → Words (drop n ws)
-words-drop n {ws} h = record { small = λ i. rw get_or-drop (h.small (n + i)) }
+pub words-take : (n : ℕ) {ws : List ℕ} → Words ws → Words (take n ws)
+words-take n {ws} h = record { small = λ i. by_cases (ltb i n) (λ t. rw (get_or-take n ws i 0 (ltb-true _ _ t)) (h.small i)) (λ t. rw (past i (ltb-false _ _ t)) (omega arith)) }
+  where
+    past : (i : ℕ) → n ≤ i → get_or (take n ws) i 0 ≡ 0
+    past i l = get_or-eq_default (take n ws) 0 {n = i} (simp length-take (omega arith))
 
 pub length-words : (n x : ℕ) → length (words_of n x) ≡ n
 unfolding words_of
@@ -58,13 +68,13 @@ words_take zero k x h = refl
 words_take (suc n) zero x h = absurd (omega arith)
 words_take (suc n) (suc k) x h = ap (λ (l : List ℕ). x % 65536 ∷ l) (words_take n k (x / 65536) (omega arith))
 
--- the word at i, and the number of those above it
-pub number-drop : (ws : List ℕ) (i : ℕ) → i < length ws → number_of (drop i ws) ≡ get_or ws i 0 + 65536 * number_of (drop (suc i) ws)
+-- as code joins at most four words, from the highest down: each is shifted in below those above it
+pub joined : (ws : List ℕ) → Words ws → length ws ≤ 4 → fold (λ (x w : ℕ). bit_or (x * 65536 % 2 ^ 64) w) 0 (reverse ws) ≡ number_of ws
 unfolding number_of
-number-drop ws i h = rw (drop-cons ws i 0 h)
-
--- what is left of at most four words above the lowest
-pub number-drop-lt : {ws : List ℕ} → Words ws → length ws ≤ 4 → (i : ℕ) → 0 < i → number_of (drop i ws) < 65536 ^ 3
-number-drop-lt {ws} h l i p =
-    let n : length (drop i ws) ≤ 3 = simp length-drop (omega arith) in
-    lt_of_lt_of_le (number_lt (drop i ws) (words-drop i h)) (pow-le-pow_right {n = 65536} (omega arith) n)
+joined [] h l = refl
+joined (w ∷ ws) h l =
+    let ih = joined ws (words_tail h) (omega arith) in
+    let small : number_of ws < 65536 ^ 3 = 
+        let n : length ws ≤ 3 = omega arith in lt_of_lt_of_le (number_lt ws (words_tail h)) (pow-le-pow_right {n = 65536} (omega arith) n) in
+    let fits : number_of ws * 65536 % 2 ^ 64 ≡ number_of ws * 65536 = mod-eq_of_lt (omega arith) in
+    rw (reverse-cons w ws, fold-append, ih, fits) (or_shifted (number_of ws) 16 w (h.small 0) ∙ omega arith)

@@ -1,15 +1,13 @@
 -- Programming (document 01): "A multi-word value is refused with 4 if any stored bit is 1 where the value has 0. Otherwise the words become
 -- the value. All words are tested before one changes." Request Three puts a second rule of refusal beside this one: "if any word .. is nonzero,
 -- whatever the value". Request Five: "Programming now answers the lowest word index, counted over the whole array, at which it was refused".
-use Rattle.std.specs.Prelude.{ℕ, suc, ◌+◌, ◌-◌, ◌≤◌, ◌<◌, ◌≡◌, Bool, true, false, not, ◌&&◌, List, [], ◌∷◌, eqb, length, get_or}
+use Rattle.std.specs.Prelude.{ℕ, suc, ◌+◌, ◌-◌, ◌≤◌, ◌<◌, ◌≡◌, Bool, true, false, not, ◌&&◌, List, [], ◌∷◌, eqb, length, get_or, Result, Ok, Err, ⊤}
 use Rattle.std.proofs.lemmas.List.Edits.{sets}
 use Rattle.basics.specs.Choice.{when◌then◌else◌}
 use Rattle.basics.specs.Range.{any_below}
 use Rattle.basics.specs.Digits.{bit}
 use Rattle.words.specs.declared.Rule.{Rule}
 use Rattle.words.specs.declared.Rule.TheVariants.{KeepBits, BlankOnly}
-use Rattle.words.specs.declared.Programmed.{Programmed}
-use Rattle.words.specs.declared.Programmed.TheVariants.{Done, Refused}
 
 -- some bit of the 16 is 1 in a and 0 in b
 unfoldable pub loses_bit : ℕ → ℕ → Bool
@@ -21,14 +19,14 @@ refuses KeepBits stored value = loses_bit stored value
 refuses BlankOnly stored value = not (eqb stored 0)
 
 -- all words of the value are tested, from the cell `at` on; the lowest that refuses is named
-unfoldable pub program_answer : Rule → List ℕ → ℕ → List ℕ → Programmed
-program_answer rule cells at [] = Done
-program_answer rule cells at (v ∷ vs) = when refuses rule (get_or cells at 0) v then Refused at else program_answer rule cells (suc at) vs
+unfoldable pub program_answer : Rule → List ℕ → ℕ → List ℕ → Result ⊤ ℕ
+program_answer rule cells at [] = Ok tt
+program_answer rule cells at (v ∷ vs) = when refuses rule (get_or cells at 0) v then Err at else program_answer rule cells (suc at) vs
 
 -- the words become the value, or none changes
-unfoldable pub stored : Programmed → List ℕ → ℕ → List ℕ → List ℕ
-stored Done cells at value = sets cells at value
-stored (Refused i) cells at value = cells
+unfoldable pub stored : Result ⊤ ℕ → List ℕ → ℕ → List ℕ → List ℕ
+stored (Ok done) cells at value = sets cells at value
+stored (Err i) cells at value = cells
 
 unfoldable pub program_cells : Rule → List ℕ → ℕ → List ℕ → List ℕ
 program_cells rule cells at value = stored (program_answer rule cells at value) cells at value

@@ -1,13 +1,12 @@
 -- Writes and burns: nothing is burnt twice but AUTH_STATE data (OldRule.antt), a refusal names its word, what a write stored is what is ever read, and when a
 -- write is done, denied or refused.
-use Rattle.std.specs.Prelude.{ℕ, suc, ◌+◌, ◌/◌, ◌^◌, ◌≤◌, ◌<◌, ◌≡◌, true, List, ◌++◌, ◌↔◌, length, get_or}
+use Rattle.std.specs.Prelude.{ℕ, suc, ◌+◌, ◌/◌, ◌^◌, ◌≤◌, ◌<◌, ◌≡◌, true, List, ◌++◌, ◌↔◌, length, get_or, Ok}
 use Rattle.words.specs.declared.Rule.{Rule}
 use Rattle.words.specs.declared.Rule.TheVariants.{KeepBits, BlankOnly}
 use Rattle.words.specs.Words.{number_of, words_of, part_at}
 use Rattle.words.specs.Programming.{program_answer, Lowest}
 use Rattle.partitions.specs.Map.{Map, rights_of, number_at, partition_at, limit, first_word, word_count}
 use Rattle.life_cycle.specs.Words.{counter_words, state_words}
-use Rattle.model.specs.declared.Answer.TheVariants.{Done}
 use Rattle.model.specs.declared.Command.{Command}
 use Rattle.model.specs.declared.Command.TheVariants.{Read, Write, Digest, Transition, PowerUp}
 use Rattle.model.specs.Answers.{code_of, value_of}
@@ -18,7 +17,6 @@ use Rattle.model.specs.Step.{step, after, machine_after, answer_to}
 use Rattle.model.specs.Claims.Terms.{ValidInputs, Says, Put, stored_words, NotWritten, Allowed, used_value}
 use Rattle.model.specs.Claims.Numbers.{KeyAt, Plain, Hardware, Lockable, LowestBurnt, LowestCleared, eight_from}
 use Rattle.model.specs.Claims.Demand3.{Ready}
-use Rattle.words.specs.declared.Programmed.TheVariants as programmed
 use Rattle.partitions.specs.declared.Kind.TheVariants as kind
 use Rattle.model.specs.declared.Phase.TheVariants as phase
 
@@ -31,8 +29,8 @@ module _ (prims : Primitives) (map : Map) where
     digesting : {a : ℕ}
         → Targets m (Digest a) digest_rule ((partition_at map a).digest / 2)
         (words_of 4 (computed_digest prims m.lent.constants (partition_at map a) m.lent.cells))
-    moving : {target high low : ℕ}
-        → Targets m (Transition target high low) life_cycle_rule (counter_at map)
+    moving : {target given : ℕ}
+        → Targets m (Transition target given) life_cycle_rule (counter_at map)
         (counter_words m.lent.constants (suc m.session.count) ++ state_words m.lent.constants target)
 
   -- of the words that the command is to program, the word i is the lowest that refuses
@@ -94,7 +92,7 @@ module _ (prims : Primitives) (map : Map) where
         let words = stored_words prims map m.lent.constants a value in
         (Says 0x05 0 answer ↔ WriteDenied m a)
         × ((i : ℕ) → Says 0x04 i answer ↔ ((WriteDenied m a → ⊥) × Lowest (direct_rule p a) m.lent.cells (first_word p a) words i))
-        × (Says 0x00 0 answer ↔ ((WriteDenied m a → ⊥) × (program_answer (direct_rule p a) m.lent.cells (first_word p a) words ≡ programmed.Done)))
+        × (Says 0x00 0 answer ↔ ((WriteDenied m a → ⊥) × (program_answer (direct_rule p a) m.lent.cells (first_word p a) words ≡ Ok tt)))
     -- "Otherwise the words become the value": a write that answers 0 programs these words from its granule's first on, and no other cell changes
     pub puts : (m : Machine) → ValidInputs map m → (a value : ℕ) → code_of (answer_to prims map (Write a value) m) ≡ 0x00
         → let p = partition_at map a in
@@ -136,4 +134,4 @@ module _ (prims : Primitives) (map : Map) where
         → (l₂ : List Command) → (number_of (stored_words prims map m.lent.constants a value) ≡ 0 → NotWritten prims map a l₂ s.result.machine)
         → (direct_rule (partition_at map a) a ≡ KeepBits → NotWritten prims map a l₂ s.result.machine)
         → (b shown : ℕ) → first_word (partition_at map b) b ≡ first_word (partition_at map a) a
-        → answer_to prims map (Read b) (after prims map l₂ s.result.machine) ≡ Done shown → shown ≡ used_value map a value
+        → answer_to prims map (Read b) (after prims map l₂ s.result.machine) ≡ Ok shown → shown ≡ used_value map a value

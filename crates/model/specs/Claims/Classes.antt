@@ -8,7 +8,7 @@ use Rattle.model.specs.Claims.Terms.{writing_of, writes_at, digests_at}
 pub record Classes : Type 0 where
   -- power-up is the only command of its class, and transitions are those of theirs: the others are accesses
   pub power_ups : (x : Command) → (class_of x ≡ sensing) ↔ (x ≡ PowerUp)
-  pub transitions : (x : Command) → (class_of x ≡ transiting) ↔ ((target : ℕ) × (high : ℕ) × (low : ℕ) × (x ≡ Transition target high low))
+  pub transitions : (x : Command) → (class_of x ≡ transiting) ↔ ((target : ℕ) × (given : ℕ) × (x ≡ Transition target given))
   -- a write and a digest command write by direct access, and no other does
   pub writes : (x : Command) (a value : ℕ) → (writing_of x ≡ writes_at a value) ↔ (x ≡ Write a value)
   pub digests : (x : Command) (a : ℕ) → (writing_of x ≡ digests_at a) ↔ (x ≡ Digest a)

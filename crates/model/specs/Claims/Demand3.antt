@@ -1,8 +1,7 @@
 -- Demand 3, whole: one claim over every list of commands that begins with a power-up.
-use Rattle.std.specs.Prelude.{ℕ, ◌^◌, ◌<◌, ◌≡◌, false, List, ◌∷◌, ◌++◌}
+use Rattle.std.specs.Prelude.{ℕ, ◌^◌, ◌<◌, ◌≡◌, false, List, ◌∷◌, ◌++◌, Ok}
 use Rattle.words.specs.Programming.{Kept}
 use Rattle.partitions.specs.Map.{Map, number_at, partition, partition_at, limit, in_digest, first_word}
-use Rattle.model.specs.declared.Answer.TheVariants.{Done}
 use Rattle.model.specs.declared.Command.{Command}
 use Rattle.model.specs.declared.Command.TheVariants.{Read, Write, Transition, PowerUp}
 use Rattle.model.specs.Answers.{code_of}
@@ -37,7 +36,7 @@ module _ (prims : Primitives) (map : Map) where
         → let m₂ = after prims map l₂ s.result.machine in
         (b : ℕ) → b < limit map → first_word (partition_at map b) b ≡ first_word (partition_at map a) a
         → (in_digest (partition_at map b) b ≡ false → read_locked m₂.session (number_at map b) ≡ false)
-        → answer_to prims map (Read b) m₂ ≡ Done (used_value map a value))
+        → answer_to prims map (Read b) m₂ ≡ Ok (used_value map a value))
     -- two chips whose fuses differ only in data words of secret partitions with the same nonzero stored digests, whatever copy and record each has
     -- before the power-up: where their verdicts and token comparisons agree, every answer is equal and they still differ only there
     pub chips : (m n : Machine) → ValidInputs map m → ValidInputs map n → m.lent.constants ≡ n.lent.constants
@@ -47,5 +46,5 @@ module _ (prims : Primitives) (map : Map) where
         × ((after prims map (PowerUp ∷ l) m).session ≡ (after prims map (PowerUp ∷ l) n).session)
         × Alike map m.lent.cells n.lent.cells (after prims map (PowerUp ∷ l) m).lent.cells (after prims map (PowerUp ∷ l) n).lent.cells
     -- a transition in such a list never answers 4
-    pub strokes : (m : Machine) → ValidInputs map m → (l : List Command) (target high low : ℕ)
-        → code_of (answer_to prims map (Transition target high low) (after prims map (PowerUp ∷ l) m)) ≡ 0x04 → ⊥
+    pub strokes : (m : Machine) → ValidInputs map m → (l : List Command) (target given : ℕ)
+        → code_of (answer_to prims map (Transition target given) (after prims map (PowerUp ∷ l) m)) ≡ 0x04 → ⊥

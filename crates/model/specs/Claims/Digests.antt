@@ -1,13 +1,11 @@
 -- Digests: when a digest command answers 0, what it answers and stores, that the partition then passes its check, and that a digest is never written in part.
-use Rattle.std.specs.Prelude.{ℕ, ◌/◌, ◌%◌, ◌^◌, ◌<◌, ◌≡◌, true, false, List, [], ◌∷◌, ◌++◌, ◌↔◌, length}
+use Rattle.std.specs.Prelude.{ℕ, ◌/◌, ◌%◌, ◌^◌, ◌<◌, ◌≡◌, true, false, List, [], ◌∷◌, ◌++◌, ◌↔◌, length, Ok}
 use Rattle.words.specs.Words.{words_of}
 use Rattle.words.specs.Programming.{program_answer}
 use Rattle.partitions.specs.Map.{Map, rights_of, number_at, partition, partition_at, limit, in_digest}
-use Rattle.model.specs.declared.Answer.{Answer}
-use Rattle.model.specs.declared.Answer.TheVariants.{Done}
 use Rattle.model.specs.declared.Command.{Command}
 use Rattle.model.specs.declared.Command.TheVariants.{Write, Digest, PowerUp}
-use Rattle.model.specs.Answers.{code_of}
+use Rattle.model.specs.Answers.{Answer, code_of}
 use Rattle.model.specs.Session.{is_ready, sensed_at, sensed_locked}
 use Rattle.model.specs.Lent.{Machine, Primitives}
 use Rattle.model.specs.Commands.{digest_rule, stored_digest}
@@ -15,12 +13,11 @@ use Rattle.model.specs.Step.{after, machine_after, answer_to}
 use Rattle.model.specs.Claims.Terms.{ValidInputs, Says, Put, Digested, writing_of, writes_at, digests_at, writes_nothing}
 use Rattle.model.specs.Claims.Numbers.{Hardware, LowestBurnt, digest_of}
 use Rattle.model.specs.declared.Phase.TheVariants as phase
-use Rattle.words.specs.declared.Programmed.TheVariants as programmed
 
 -- the command puts a number of 64 bits in the digest of partition n, whole: a write of it there, or a digest command that answers it; and it answers 0
 pub data Puts (map : Map) (n digest : ℕ) : Command → Answer → Type 0 where
-  writes : {a value : ℕ} → number_at map a ≡ n → in_digest (partition map n) a ≡ true → value % 2 ^ 64 ≡ digest → Puts map n digest (Write a value) (Done 0)
-  computes : {a value : ℕ} → a ≡ (partition map n).start → value % 2 ^ 64 ≡ digest → Puts map n digest (Digest a) (Done value)
+  writes : {a value : ℕ} → number_at map a ≡ n → in_digest (partition map n) a ≡ true → value % 2 ^ 64 ≡ digest → Puts map n digest (Write a value) (Ok 0)
+  computes : {a value : ℕ} → a ≡ (partition map n).start → value % 2 ^ 64 ≡ digest → Puts map n digest (Digest a) (Ok value)
 
 -- the command is no write to data of partition n that answers 0
 abbrev pub data_not_written : Map → ℕ → Command → Answer → Type 0
@@ -57,7 +54,7 @@ module _ (prims : Primitives) (map : Map) where
     pub hardware : (rights_of (partition_at map a).kind).hardware ≡ true
     pub start : a ≡ (partition_at map a).start
     pub not_locked : sensed_locked m.session (number_at map a) ≡ false
-    pub takes : program_answer digest_rule m.lent.cells ((partition_at map a).digest / 2) (words_of 4 (digest_now (number_at map a) m)) ≡ programmed.Done
+    pub takes : program_answer digest_rule m.lent.cells ((partition_at map a).digest / 2) (words_of 4 (digest_now (number_at map a) m)) ≡ Ok tt
 
   -- where a digest comes from that partition n holds after the commands l: it was there before them, or one of them put it there
   pub data Source (m : Machine) (l : List Command) (n digest : ℕ) : Type 0 where
@@ -75,7 +72,7 @@ module _ (prims : Primitives) (map : Map) where
         × ((i : ℕ) → Says 0x04 i answer ↔ (DigestAllowed m a × LowestBurnt m.lent.cells ((partition_at map a).digest / 2) 4 i))
     -- "Computes over the stored data words, programs the digest location, answers the digest."
     pub done : (m : Machine) → ValidInputs map m → (a : ℕ) → code_of (answer_to prims map (Digest a) m) ≡ 0x00
-        → (answer_to prims map (Digest a) m ≡ Done (digest_now (number_at map a) m))
+        → (answer_to prims map (Digest a) m ≡ Ok (digest_now (number_at map a) m))
         × Put digest_rule ((partition_at map a).digest / 2) (words_of 4 (digest_now (number_at map a) m)) m.lent.cells
         (machine_after prims map (Digest a) m).lent.cells
     -- the location holds it, whole: what it holds is the digest of the stored words

@@ -29,10 +29,9 @@ module _ (prims : Primitives) (map : Map) where
   pub record Scrapped (m : Machine) (l : List Command) : Type 0 where
     pub before : List Command
     pub behind : List Command
-    pub high : ℕ
-    pub low : ℕ
-    pub split : l ≡ before ++ Transition 20 high low ∷ behind
-    pub moved : code_of (answer_to prims map (Transition 20 high low) (after prims map before m)) ≡ 0x00
+    pub given : ℕ
+    pub split : l ≡ before ++ Transition 20 given ∷ behind
+    pub moved : code_of (answer_to prims map (Transition 20 given) (after prims map before m)) ≡ 0x00
 
   pub record FailedPowerUps : Type 0 where
     -- after a power-up that answered 0, a later one answers 6 for a partition only if it was written after its digest command

@@ -81,9 +81,9 @@ module _ (prims : Primitives) (map : Map) where
     pub counts : (constants : List ℕ) (count i : ℕ) → 0 < count → i < 24
         → get_or (counter_words constants count) i 0 ≡ (when ltb i count then get_or constants (60 + i) 0 else get_or constants (36 + i) 0)
     -- a move to RMA (19) from DEV (16) or PROD (17) was given the RMA token
-    pub to_rma : (machine : Machine) (high low : ℕ) → ((machine.session.state ≡ 16) ⊎ (machine.session.state ≡ 17))
-        → code_of (answer_to prims map (Transition 19 high low) machine) ≡ 0x00 → Compared prims map machine (high * 2 ^ 64 + low) true token.Rma
+    pub to_rma : (machine : Machine) (given : ℕ) → ((machine.session.state ≡ 16) ⊎ (machine.session.state ≡ 17))
+        → code_of (answer_to prims map (Transition 19 given) machine) ≡ 0x00 → Compared prims map machine given true token.Rma
     -- a move out of TEST_LOCKEDi (2 i + 2) but to SCRAP (20) was given TEST_UNLOCK or TEST_EXIT
-    pub out_of_locked : (machine : Machine) (i target high low : ℕ) → i < 7 → machine.session.state ≡ 2 * i + 2 → (target ≡ 20 → ⊥)
-        → code_of (answer_to prims map (Transition target high low) machine) ≡ 0x00
-        → Compared prims map machine (high * 2 ^ 64 + low) true token.TestUnlock ⊎ Compared prims map machine (high * 2 ^ 64 + low) true token.TestExit
+    pub out_of_locked : (machine : Machine) (i target given : ℕ) → i < 7 → machine.session.state ≡ 2 * i + 2 → (target ≡ 20 → ⊥)
+        → code_of (answer_to prims map (Transition target given) machine) ≡ 0x00
+        → Compared prims map machine given true token.TestUnlock ⊎ Compared prims map machine given true token.TestExit

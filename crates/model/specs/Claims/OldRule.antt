@@ -1,16 +1,16 @@
 -- "AUTH_STATE data, like LIFE_CYCLE, keeps the old rule under Three and Five." (request Six) Claims over lists that rest on the new rule have it as a premise;
 -- what holds of AUTH_STATE data stands here.
-use Rattle.std.specs.Prelude.{ℕ, ◌*◌, ◌/◌, ◌<◌, ◌≡◌, false, List, get_or}
+use Rattle.std.specs.Prelude.{ℕ, ◌*◌, ◌/◌, ◌<◌, ◌≡◌, false, List, get_or, Ok, Err}
 use Rattle.words.specs.declared.Rule.TheVariants.{KeepBits}
 use Rattle.words.specs.Words.{words_of, part_at}
 use Rattle.words.specs.Programming.{loses_bit, Lowest, Kept}
 use Rattle.partitions.specs.declared.Kind.TheVariants.{AuthState}
 use Rattle.partitions.specs.declared.Partition.{Partition}
 use Rattle.partitions.specs.Map.{Map, partition_at, limit}
-use Rattle.model.specs.declared.Answer.{Answer}
-use Rattle.model.specs.declared.Answer.TheVariants.{Done, NotBlank}
+use Rattle.model.specs.declared.Failure.TheVariants.{NotBlank}
 use Rattle.model.specs.declared.Command.{Command}
 use Rattle.model.specs.declared.Command.TheVariants.{Write, PowerUp}
+use Rattle.model.specs.Answers.{Answer}
 use Rattle.model.specs.Lent.{Machine, Primitives}
 use Rattle.model.specs.Commands.{direct_rule, digest_rule, stored_digest}
 use Rattle.model.specs.Step.{step, after, machine_after, answer_to}
@@ -31,7 +31,7 @@ two_words cells a = part_at cells (a / 4 * 2) 2
 -- become
 pub data Gains (a : ℕ) (words : List ℕ) : Command → Answer → List ℕ → Type 0 where
   stays : {x : Command} {answer : Answer} → Gains a words x answer words
-  gains : {b value : ℕ} → b / 4 ≡ a / 4 → Kept words (words_of 2 value) → Gains a words (Write b value) (Done 0) (words_of 2 value)
+  gains : {b value : ℕ} → b / 4 ≡ a / 4 → Kept words (words_of 2 value) → Gains a words (Write b value) (Ok 0) (words_of 2 value)
 
 module _ (prims : Primitives) (map : Map) where
   pub record OldRule : Type 0 where
@@ -57,4 +57,4 @@ module _ (prims : Primitives) (map : Map) where
         let m₁ = after prims map l₁ (machine_after prims map PowerUp m₀) in
         stored_digest (partition_at map a) m₀.lent.cells ≡ 0
         → (i : ℕ) → Lowest KeepBits m₁.lent.cells (a / 4 * 2) (words_of 2 value) i
-        → (answer_to prims map (Write a value) m₁ ≡ NotBlank i) × (machine_after prims map (Write a value) m₁ ≡ m₁)
+        → (answer_to prims map (Write a value) m₁ ≡ Err (NotBlank i)) × (machine_after prims map (Write a value) m₁ ≡ m₁)

@@ -1,6 +1,5 @@
 -- Power-up: each answer by its reason, and what it senses.
-use Rattle.std.specs.Prelude.{ℕ, ◌+◌, ◌*◌, ◌/◌, ◌%◌, ◌≤◌, ◌<◌, ◌≡◌, [], ◌∷◌, ◌↔◌, length, get_or}
-use Rattle.std.proofs.Math.Option.{none, some}
+use Rattle.std.specs.Prelude.{ℕ, ◌+◌, ◌*◌, ◌/◌, ◌%◌, ◌≤◌, ◌<◌, ◌≡◌, [], ◌∷◌, ◌↔◌, length, get_or, None, Some}
 use Rattle.words.specs.Words.{number_of, words_of, part_at}
 use Rattle.partitions.specs.Map.{Map, partition, partition_at, limit, number_of_kind}
 use Rattle.life_cycle.specs.Words.{counter_words, state_words}
@@ -62,7 +61,7 @@ module _ (prims : Primitives) (map : Map) where
     -- "An integrity verdict is the first partition that fails a power-up's digest check, or none."; no other command has one
     pub verdicts : (m : Machine) → ValidInputs map m
         → let seen = (step prims map PowerUp m).verdicts in
-        ((n : ℕ) → (seen ≡ some n ∷ []) ↔ FirstFails m.lent n) × ((seen ≡ none ∷ []) ↔ ((n : ℕ) → Fails m.lent n → ⊥))
+        ((n : ℕ) → (seen ≡ Some n ∷ []) ↔ FirstFails m.lent n) × ((seen ≡ None ∷ []) ↔ ((n : ℕ) → Fails m.lent n → ⊥))
     pub no_verdict : (m : Machine) (x : Command) → not_power_up x → (step prims map x m).verdicts ≡ []
     -- "sensed digests of 0 to 5 are the stored ones"; the record's other entries are zero
     pub sensed : (m : Machine) → ValidInputs map m → code_of (answer_to prims map PowerUp m) ≡ 0x00 → (n : ℕ)

@@ -1,8 +1,8 @@
 -- Read locks: what a lock refuses, until when, and that nothing else looks at it.
-use Rattle.std.specs.Prelude.{ℕ, ◌<◌, ◌≡◌, Bool, true, List, ◌∷◌, length, set}
+use Rattle.std.specs.Prelude.{ℕ, ◌<◌, ◌≡◌, Bool, true, List, ◌∷◌, length, set, Ok, Err}
 use Rattle.basics.specs.Choice.{when◌then◌else◌}
 use Rattle.partitions.specs.Map.{Map, number_at, partition, partition_at}
-use Rattle.model.specs.declared.Answer.TheVariants.{Done, Denied, NotReady}
+use Rattle.model.specs.declared.Failure.TheVariants.{Denied, NotReady}
 use Rattle.model.specs.declared.Command.{Command}
 use Rattle.model.specs.declared.Command.TheVariants.{Read, ReadLock, PowerUp}
 use Rattle.model.specs.Answers.{code_of}
@@ -23,7 +23,7 @@ module _ (prims : Primitives) (map : Map) where
     pub exactly : (m : Machine) → ValidInputs map m → m.session.phase ≡ phase.Ready → (n : ℕ)
         → let answer = answer_to prims map (ReadLock n) m in
         (n < length map → Lockable (partition map n).kind
-        → (answer ≡ Done 0) × (machine_after prims map (ReadLock n) m
+        → (answer ≡ Ok 0) × (machine_after prims map (ReadLock n) m
         ≡ record { lent = m.lent; session = with_locks (set m.session.locks n true) m.session }))
         × ((n < length map → Lockable (partition map n).kind → ⊥) → Says 0x05 0 answer)
     -- "Lasts until power-up": from a read lock that answers 0 on, every read of the partition's data answers 5, or 7 where the phase is not Ready
@@ -33,7 +33,7 @@ module _ (prims : Primitives) (map : Map) where
         → (l : List Command) → NoPowerUp l
         → let m₁ = after prims map l (machine_after prims map (ReadLock n) m₀) in
         (a : ℕ) → number_at map a ≡ n → a < (partition_at map a).digest
-        → answer_to prims map (Read a) m₁ ≡ (when is_ready m₁.session.phase then Denied else NotReady)
+        → answer_to prims map (Read a) m₁ ≡ (when is_ready m₁.session.phase then Err Denied else Err NotReady)
     -- "for data, not digests, also if the partition is read-locked": all else is as without the lock, every answer and all that is lent, whatever follows
     pub others : (m : Machine) (n : ℕ) (l : List Command)
         → let m₁ = after prims map l (machine_after prims map (ReadLock n) m) in

@@ -1,8 +1,7 @@
 -- Reads and front reads: each code if and only if its reason, and what is shown.
-use Rattle.std.specs.Prelude.{ℕ, ◌+◌, ◌*◌, ◌/◌, ◌%◌, ◌^◌, ◌≤◌, ◌<◌, ◌≡◌, true, false, List, ◌∷◌, ◌↔◌, get_or}
+use Rattle.std.specs.Prelude.{ℕ, ◌+◌, ◌*◌, ◌/◌, ◌%◌, ◌^◌, ◌≤◌, ◌<◌, ◌≡◌, true, false, List, ◌∷◌, ◌↔◌, get_or, Ok}
 use Rattle.words.specs.Words.{number_of, words_of, part_at}
 use Rattle.partitions.specs.Map.{Map, number_at, partition_at, limit}
-use Rattle.model.specs.declared.Answer.TheVariants.{Done}
 use Rattle.model.specs.declared.Command.TheVariants.{Read, FrontRead}
 use Rattle.model.specs.Answers.{code_of}
 use Rattle.model.specs.Session.{sensed_at}
@@ -39,9 +38,9 @@ module _ (prims : Primitives) (map : Map) where
         → let answer = answer_to prims map (Read a) m in
         (Says 0x05 0 answer ↔ ReadDenied map m a) × ((code_of answer ≡ 0x00) ↔ (ReadDenied map m a → ⊥))
     -- "Reads look at cells; the value is the granule's"
-    pub shows : (m : Machine) → ValidInputs map m → (a value : ℕ) → answer_to prims map (Read a) m ≡ Done value
+    pub shows : (m : Machine) → ValidInputs map m → (a value : ℕ) → answer_to prims map (Read a) m ≡ Ok value
         → Shown prims map m.lent.constants m.lent.cells a value
     -- "HW_CFG data from the sensed copy; any other address 5."
     pub front_read : (m : Machine) → ValidInputs map m → m.session.phase ≡ phase.Ready → (a : ℕ)
         → let answer = answer_to prims map (FrontRead a) m in
-        (InHwCfgData map a → answer ≡ Done (number_of (part_at m.lent.copy (a / 4 * 2) 2))) × ((InHwCfgData map a → ⊥) → Says 0x05 0 answer)
+        (InHwCfgData map a → answer ≡ Ok (number_of (part_at m.lent.copy (a / 4 * 2) 2))) × ((InHwCfgData map a → ⊥) → Says 0x05 0 answer)

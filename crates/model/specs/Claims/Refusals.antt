@@ -44,8 +44,8 @@ module _ (prims : Primitives) (map : Map) where
         → ((machine_after prims map PowerUp m).lent.cells ≡ m.lent.cells)
         × (judgement_code (code_of (answer_to prims map PowerUp m)) ≡ true → machine_after prims map PowerUp m ≡ m)
     -- a transition that is refused early changes nothing; every later answer leaves the copy and the record but for its phase, and 0x20 leaves the cells
-    pub transitions : (m : Machine) (target high low : ℕ)
-        → let x = Transition target high low in
+    pub transitions : (m : Machine) (target given : ℕ)
+        → let x = Transition target given in
         let code = code_of (answer_to prims map x m) in
         (early code ≡ true → machine_after prims map x m ≡ m)
         × (early code ≡ false

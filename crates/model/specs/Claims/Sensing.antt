@@ -1,12 +1,10 @@
 -- Sensing: what a power-up finds, and that it stays until the next.
-use Rattle.std.specs.Prelude.{ℕ, ◌/◌, ◌≡◌, true, false, List, [], ◌∷◌, ◌++◌, eqb, replicate}
-use Rattle.std.proofs.Math.Option.{none}
+use Rattle.std.specs.Prelude.{ℕ, ◌/◌, ◌≡◌, true, false, List, [], ◌∷◌, ◌++◌, eqb, replicate, Ok, None}
 use Rattle.basics.specs.Choice.{when◌then◌else◌}
 use Rattle.basics.specs.Range.{listed}
 use Rattle.partitions.specs.Map.{Map, number_at, partition, partition_at, limit, number_of_kind}
 use Rattle.life_cycle.specs.declared.LifeCycle.TheVariants.{Valid}
 use Rattle.model.specs.declared.Phase.TheVariants.{Off, Dead}
-use Rattle.model.specs.declared.Answer.TheVariants.{Done}
 use Rattle.model.specs.declared.Command.{Command}
 use Rattle.model.specs.declared.Command.TheVariants.{FrontRead, ReadLock, PowerUp}
 use Rattle.model.specs.Answers.{code_of}
@@ -29,7 +27,7 @@ module _ (prims : Primitives) (map : Map) where
     pub right : ValidInputs map m
     pub ready : is_ready m.session.phase ≡ true
     -- every nonzero stored digest was the one recomputed
-    pub checked : first_failing prims map m.lent.constants c₀ ≡ none
+    pub checked : first_failing prims map m.lent.constants c₀ ≡ None
     -- "sensed digests of 0 to 5 are the stored ones; the copy holds 2 to 6, secret data unscrambled": both as found then
     pub sensed : m.session.sensed ≡ digests c₀ map
     pub copy : m.lent.copy ≡ listed (copy_word prims map m.lent.constants c₀) 0 (limit map / 2)
@@ -49,13 +47,13 @@ module _ (prims : Primitives) (map : Map) where
         is_ready m₁.session.phase ≡ true → Since (after prims map l₀ m).lent.cells m₁
     -- "HW_CFG data from the sensed copy": a front read that answers 0 answers the words that the last power-up found
     pub fronts : (m : Machine) → ValidInputs map m → (l₀ l₁ : List Command) → NoPowerUp l₁ → (a value : ℕ)
-        → answer_to prims map (FrontRead a) (after prims map (l₀ ++ PowerUp ∷ l₁) m) ≡ Done value
+        → answer_to prims map (FrontRead a) (after prims map (l₀ ++ PowerUp ∷ l₁) m) ≡ Ok value
         → value ≡ granule (partition_at map a) (after prims map l₀ m).lent.cells a
     -- once a power-up has found a partition locked (HW_CFG begins with the DEVICE_ID), every front read of it that ever answers 0 answers the words that were
     -- stored then
     pub device : (m : Machine) → ValidInputs map m → (n : ℕ) → Digested map n → (l₁ l₂ : List Command)
         → (stored_digest (partition map n) (after prims map l₁ m).lent.cells ≡ 0 → ⊥)
-        → (a value : ℕ) → number_at map a ≡ n → answer_to prims map (FrontRead a) (after prims map (l₁ ++ PowerUp ∷ l₂) m) ≡ Done value
+        → (a value : ℕ) → number_at map a ≡ n → answer_to prims map (FrontRead a) (after prims map (l₁ ++ PowerUp ∷ l₂) m) ≡ Ok value
         → value ≡ granule (partition map n) (after prims map l₁ m).lent.cells a
     -- a list without power-up and transition leaves the copy and the sensed digests as they were, on any machine
     pub unsensed : (m : Machine) (l : List Command) → Quiet l

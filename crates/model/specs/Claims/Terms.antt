@@ -1,20 +1,17 @@
 -- The terms that claims of several subjects are stated in (document 01, 'Where the promises have to bite').
-use Rattle.std.specs.Prelude.{ℕ, ◌+◌, ◌*◌, ◌^◌, ◌≤◌, ◌<◌, ◌≡◌, true, false, List, [], ◌∷◌, length, get_or}
+use Rattle.std.specs.Prelude.{ℕ, ◌+◌, ◌*◌, ◌^◌, ◌≤◌, ◌<◌, ◌≡◌, true, false, List, [], ◌∷◌, length, get_or, Ok}
 use Rattle.words.specs.declared.Rule.{Rule}
 use Rattle.words.specs.Words.{number_of, words_of, part_at}
 use Rattle.words.specs.Programming.{program_answer}
 use Rattle.partitions.specs.Map.{Map, rights_of, number_at, partition, partition_at, limit, in_digest, first_word, word_count}
 use Rattle.constants.specs.Constants.{valid_constants}
-use Rattle.model.specs.declared.Answer.{Answer}
-use Rattle.model.specs.declared.Answer.TheVariants.{Done}
 use Rattle.model.specs.declared.Command.{Command}
 use Rattle.model.specs.declared.Command.TheVariants.{Read, Write, FrontRead, Digest, ReadLock, Transition, PowerUp}
 use Rattle.model.specs.Session.{locking}
-use Rattle.model.specs.Answers.{code_of, value_of}
+use Rattle.model.specs.Answers.{Answer, code_of, value_of}
 use Rattle.model.specs.Lent.{Machine, Primitives, right_lengths}
 use Rattle.model.specs.Commands.{direct_rule, stored_digest, write_denied, stored_form, class_of, sensing, transiting, access}
 use Rattle.model.specs.Step.{Step, step, machine_after, answer_to}
-use Rattle.words.specs.declared.Programmed.TheVariants as programmed
 
 -- lent lengths right, cells and constants words of 16 bits, constants valid; what cells, copy and record hold is free
 pub record ValidInputs (map : Map) (m : Machine) : Type 0 where
@@ -41,7 +38,7 @@ Says code value answer = (code_of answer ≡ code) × (value_of answer ≡ value
 
 -- "Otherwise the words become the value": every word is taken, they stand there, and no other cell changes
 pub record Put (rule : Rule) (at : ℕ) (words before after : List ℕ) : Type 0 where
-  pub taken : program_answer rule before at words ≡ programmed.Done
+  pub taken : program_answer rule before at words ≡ Ok tt
   pub holds : part_at after at (length words) ≡ words
   pub others : (j : ℕ) → (at ≤ j → j < at + length words → ⊥) → get_or after j 0 ≡ get_or before j 0
 
@@ -88,7 +85,7 @@ writing_of (Write a value) = writes_at a value
 writing_of (FrontRead a) = writes_nothing
 writing_of (Digest a) = digests_at a
 writing_of (ReadLock number) = writes_nothing
-writing_of (Transition target high low) = writes_nothing
+writing_of (Transition target given) = writes_nothing
 writing_of PowerUp = writes_nothing
 
 -- the command is no write to the granule of address a that answers 0
@@ -125,11 +122,11 @@ module _ (prims : Primitives) (map : Map) where
     pub below : a < limit map
     pub not_denied : write_denied (locking (stored_digest (partition_at map a) c₀)) (partition_at map a) a ≡ false
     pub takes : program_answer (direct_rule (partition_at map a) a) c (first_word (partition_at map a) a) (stored_words prims map constants a value)
-        ≡ programmed.Done
+        ≡ Ok tt
 
   -- "It takes effect: it answers 0, its granule holds the data, scrambled where secret, and no other cell changes."
   pub record TakesEffect (m : Machine) (a value : ℕ) (s : Step) : Type 0 where
-    pub done : s.result.answer ≡ Done 0
+    pub done : s.result.answer ≡ Ok 0
     pub holds : let p = partition_at map a in
         part_at s.result.machine.lent.cells (first_word p a) (word_count p a) ≡ stored_words prims map m.lent.constants a value
     pub others : (j : ℕ)

@@ -1,6 +1,5 @@
 -- Transitions: which cells each answer leaves, when each is given, what the life cycle words stand for afterwards, and where the stored tokens lie.
-use Rattle.std.specs.Prelude.{ℕ, suc, ◌+◌, ◌*◌, ◌/◌, ◌^◌, ◌≤◌, ◌<◌, ◌≡◌, Bool, true, false, ◌||◌, List, [], ◌∷◌, ◌++◌, ◌↔◌, ◌⊎◌, eqb}
-use Rattle.std.proofs.Math.Option.{none}
+use Rattle.std.specs.Prelude.{ℕ, suc, ◌+◌, ◌*◌, ◌/◌, ◌^◌, ◌≤◌, ◌<◌, ◌≡◌, Bool, true, false, ◌||◌, List, [], ◌∷◌, ◌++◌, ◌↔◌, ◌⊎◌, eqb, None, Ok, Err}
 use Rattle.basics.specs.Choice.{when◌then◌else◌}
 use Rattle.words.specs.Words.{number_of, part_at}
 use Rattle.words.specs.Programming.{program_answer}
@@ -28,7 +27,6 @@ use Rattle.model.specs.Claims.Numbers.{Agrees, eight_from}
 use Rattle.model.specs.Claims.Refusals.{early}
 use Rattle.model.specs.declared.Phase.TheVariants as phase
 use Rattle.partitions.specs.declared.Kind.TheVariants as kind
-use Rattle.words.specs.declared.Programmed.TheVariants as programmed
 use Rattle.life_cycle.specs.declared.Entry.TheVariants as entry
 
 -- the codes after the stroke, with no move: "then 0x21; 0x22; 0x23"
@@ -80,17 +78,17 @@ module _ (prims : Primitives) (map : Map) where
 
   -- a programmed bit of the counter words would be cleared; or, where the table's token was given, one of the state words
   pub data Stops (m : Machine) (target given : ℕ) : Type 0 where
-    counter_refused : {cell : ℕ} → program_answer life_cycle_rule m.lent.cells (counter_at map) (stroke_words m) ≡ programmed.Refused cell
+    counter_refused : {cell : ℕ} → program_answer life_cycle_rule m.lent.cells (counter_at map) (stroke_words m) ≡ Err cell
         → Stops m target given
-    state_refused : {cell : ℕ} → program_answer life_cycle_rule m.lent.cells (counter_at map) (stroke_words m) ≡ programmed.Done → Asked m target given true
-        → program_answer life_cycle_rule m.lent.cells (state_at map) (state_words m.lent.constants target) ≡ programmed.Refused cell → Stops m target given
+    state_refused : {cell : ℕ} → program_answer life_cycle_rule m.lent.cells (counter_at map) (stroke_words m) ≡ Ok tt → Asked m target given true
+        → program_answer life_cycle_rule m.lent.cells (state_at map) (state_words m.lent.constants target) ≡ Err cell → Stops m target given
 
   -- "A 4 at either programming leaves that step's words alone": the word named, and the cells after it
   pub data Stopped (m : Machine) (target cell : ℕ) (cells : List ℕ) : Type 0 where
-    counter : program_answer life_cycle_rule m.lent.cells (counter_at map) (stroke_words m) ≡ programmed.Refused cell → cells ≡ m.lent.cells
+    counter : program_answer life_cycle_rule m.lent.cells (counter_at map) (stroke_words m) ≡ Err cell → cells ≡ m.lent.cells
         → Stopped m target cell cells
     state : Put life_cycle_rule (counter_at map) (stroke_words m) m.lent.cells cells
-        → program_answer life_cycle_rule cells (state_at map) (state_words m.lent.constants target) ≡ programmed.Refused cell → Stopped m target cell cells
+        → program_answer life_cycle_rule cells (state_at map) (state_words m.lent.constants target) ≡ Err cell → Stopped m target cell cells
 
   -- a Ready chip that gives none of 0x10, 0x12 and 0x07
   pub record Fair (m : Machine) : Type 0 where
@@ -105,37 +103,36 @@ module _ (prims : Primitives) (map : Map) where
     pub decodes : life_cycle_in map m.lent ≡ Valid state count
     pub answered : (l : List Command) → NoPowerUp l
         → let m₁ = after prims map l m in
-        verdict_of prims map m₁.lent ≡ none → Says (when eqb state 20 then 0x07 else 0x00) (256 * count + state) (answer_to prims map PowerUp m₁)
+        verdict_of prims map m₁.lent ≡ None → Says (when eqb state 20 then 0x07 else 0x00) (256 * count + state) (answer_to prims map PowerUp m₁)
 
   pub record Transitions : Type 0 where
     -- Which cells each code leaves, over any machine. "A refusal leaves cells, copy and record as they were"; "0x11 changes nothing": nor do 0x10, 0x12, 0x07
-    pub nothing : (m : Machine) (target high low : ℕ)
-        → let x = Transition target high low in
+    pub nothing : (m : Machine) (target given : ℕ)
+        → let x = Transition target given in
         early (code_of (answer_to prims map x m)) ≡ true → machine_after prims map x m ≡ m
     -- "Order: 0x20 with no cell changed;
-    pub used : (m : Machine) (target high low : ℕ)
-        → let x = Transition target high low in
+    pub used : (m : Machine) (target given : ℕ)
+        → let x = Transition target given in
         code_of (answer_to prims map x m) ≡ 0x20 → (machine_after prims map x m).lent.cells ≡ m.lent.cells
     -- then the 24 counter words of one stroke more than the record's count are programmed; then 0x21; 0x22; 0x23;
-    pub spent : (m : Machine) (target high low : ℕ)
-        → let x = Transition target high low in
+    pub spent : (m : Machine) (target given : ℕ)
+        → let x = Transition target given in
         stroke_only (code_of (answer_to prims map x m)) ≡ true
         → Put life_cycle_rule (counter_at map) (stroke_words m) m.lent.cells (machine_after prims map x m).lent.cells
     -- then the 20 state words are programmed."
-    pub moved : (m : Machine) (target high low : ℕ)
-        → let x = Transition target high low in
+    pub moved : (m : Machine) (target given : ℕ)
+        → let x = Transition target given in
         code_of (answer_to prims map x m) ≡ 0x00
         → Put life_cycle_rule (counter_at map) (move_words m target) m.lent.cells (machine_after prims map x m).lent.cells
     -- "A 4 at either programming leaves that step's words alone"
-    pub stopped : (m : Machine) (target high low : ℕ)
-        → let x = Transition target high low in
+    pub stopped : (m : Machine) (target given : ℕ)
+        → let x = Transition target given in
         let answer = answer_to prims map x m in
         code_of answer ≡ 0x04 → Stopped m target (value_of answer) (machine_after prims map x m).lent.cells
     -- When each code is given. 0x11, "target above 20"; 0x20, "24 strokes used"; else 4 where a bit would be cleared; else 0x21, "transition not in the table",
     -- 0x22, "token partition not sensed locked", 0x23, "token differs", and 0
-    pub exactly : (m : Machine) → Fair m → (target high low : ℕ)
-        → let code = code_of (answer_to prims map (Transition target high low) m) in
-        let given = high * 2 ^ 64 + low in
+    pub exactly : (m : Machine) → Fair m → (target given : ℕ)
+        → let code = code_of (answer_to prims map (Transition target given) m) in
         ((code ≡ 0x11) ↔ (20 < target))
         × ((code ≡ 0x20) ↔ ((target ≤ 20) × (m.session.count ≡ 24)))
         × (target ≤ 20 → m.session.count < 24
@@ -146,16 +143,16 @@ module _ (prims : Primitives) (map : Map) where
         × ((code ≡ 0x23) ↔ Asked m target given false)
         × ((code ≡ 0x00) ↔ Asked m target given true)))
     -- 7 for the record: "or state or count in the record above 20 or 24 (transition only)"
-    pub records : (m : Machine) → ValidInputs map m → m.session.phase ≡ phase.Ready → (target high low : ℕ)
-        → Says 0x07 0 (answer_to prims map (Transition target high low) m) ↔ ((20 < m.session.state) ⊎ (24 < m.session.count))
+    pub records : (m : Machine) → ValidInputs map m → m.session.phase ≡ phase.Ready → (target given : ℕ)
+        → Says 0x07 0 (answer_to prims map (Transition target given) m) ↔ ((20 < m.session.state) ⊎ (24 < m.session.count))
     -- "The value is 0 unless stated."
-    pub values : (m : Machine) (target high low : ℕ)
-        → let answer = answer_to prims map (Transition target high low) m in
+    pub values : (m : Machine) (target given : ℕ)
+        → let answer = answer_to prims map (Transition target given) m in
         code_of answer ≡ 0x00 → value_of answer ≡ 0
     -- "A token comparison is the test behind 0x23, its result whether the tokens agree.": none with no token, else one; none before 0x23. No other command has
     -- one.
-    pub comparisons : (m : Machine) (target high low : ℕ)
-        → let s = step prims map (Transition target high low) m in
+    pub comparisons : (m : Machine) (target given : ℕ)
+        → let s = step prims map (Transition target given) m in
         let code = code_of s.result.answer in
         (code ≡ 0x23 → s.compared ≡ false ∷ [])
         × (code ≡ 0x00 → table_entry m.session.state target ≡ entry.Allowed Nothing → s.compared ≡ [])
@@ -164,19 +161,18 @@ module _ (prims : Primitives) (map : Map) where
         × ((code ≡ 0x23 → ⊥) → (code ≡ 0x00 → ⊥) → (code ≡ 0x04 → ⊥) → s.compared ≡ [])
     pub no_comparison : (m : Machine) (x : Command) → (class_of x ≡ transiting → ⊥) → (step prims map x m).compared ≡ []
     -- a transition that answers 0 was given the token that the table asks for, by its hash, and one that answers 0x23 another, on any machine
-    pub tokens : (m : Machine) (target high low : ℕ)
-        → let given = high * 2 ^ 64 + low in
-        let code = code_of (answer_to prims map (Transition target high low) m) in
+    pub tokens : (m : Machine) (target given : ℕ)
+        → let code = code_of (answer_to prims map (Transition target given) m) in
         (code ≡ 0x00 → Asked m target given true) × (code ≡ 0x23 → Asked m target given false)
     -- a chip that is Ready in a list from a power-up gives none of 0x10, 0x12 and 0x07, and 4 "can't occur in a sequence from power-up with the same constants"
     pub fair : (m : Machine) → ValidInputs map m → (l : List Command)
         → let m₁ = after prims map (PowerUp ∷ l) m in
         is_ready m₁.session.phase ≡ true
-        → Fair m₁ × ((target high low : ℕ) → code_of (answer_to prims map (Transition target high low) m₁) ≡ 0x04 → ⊥)
+        → Fair m₁ × ((target given : ℕ) → code_of (answer_to prims map (Transition target given) m₁) ≡ 0x04 → ⊥)
     -- what the life cycle words then stand for, after a stroke alone and after a move
-    pub leaves : (m : Machine) → ValidInputs map m → (l : List Command) (target high low : ℕ)
+    pub leaves : (m : Machine) → ValidInputs map m → (l : List Command) (target given : ℕ)
         → let m₁ = after prims map (PowerUp ∷ l) m in
-        let x = Transition target high low in
+        let x = Transition target given in
         let code = code_of (answer_to prims map x m₁) in
         (stroke_only code ≡ true → Leaves m₁.session.state (suc m₁.session.count) (machine_after prims map x m₁))
         × (code ≡ 0x00 → Leaves target (suc m₁.session.count) (machine_after prims map x m₁))

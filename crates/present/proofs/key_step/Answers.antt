@@ -1,13 +1,13 @@
--- The key step on the two halves.
-use mathlib.Core.Path.{sym, ap, ap₂, ◌∙◌}
-use Prim.Native.Nat.{ℕ, ◌+◌, ◌*◌, ◌/◌, ◌%◌, ◌^◌}
-use lib.Bits.{bit_xor}
-use Rattle.present.proofs.KeyRegister.{topped, key_step-halves}
+-- The rotation is the definition's, and of the shifted round number nothing is cut off.
+use Rattle.std.proofs.Common.{◌≡◌, ◌*◌, ◌%◌, ◌^◌, ap, ap₂, ◌∙◌, arith}
+use Rattle.std.specs.Int.Bits.{bit_xor}
+use Rattle.present.specs.Present.{substitute_top, key_step}
+use Rattle.present.proofs.KeyRegister.{rotated}
 use Rattle.present.proofs.key_step.Goals as goal
 
 pub returns : goal.returns
+unfolding key_step
 returns c =
-    let round : ℕ = c.args.round in
-    ap₂ (λ (a b : ℕ). bit_xor a (round / 2 ^ 2) * 2 ^ 64 + bit_xor b (round * 2 ^ 62 % 2 ^ 64))
-    (c.top_substituted.ensures ∙ ap topped c.rotated.ensures) c.rotated-2.ensures
-    ∙ sym (key_step-halves round c.args.high c.args.low c.ranges.high.fits c.ranges.low.fits)
+    let moved = c.top_substituted.ensures ∙ ap substitute_top (c.rotate_left.ensures ∙ rotated c.args.key c.ranges.key.fits) in
+    let number : c.from.result * 2 ^ 62 % 2 ^ 128 ≡ c.args.round * 2 ^ 62 = omega arith in
+    ap₂ bit_xor moved number

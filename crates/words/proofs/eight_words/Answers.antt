@@ -1,6 +1,8 @@
 -- Two numbers of four words; past the end all are zero.
-use mathlib.Core.Path.{sym, ap₂, ◌∙◌}
-use Prim.Native.Nat.{ℕ, ◌+◌, ◌*◌, ◌^◌}
+use mathlib.Core.Path.{◌≡◌, sym, ap₂, ◌∙◌}
+use Prim.Native.Nat.{ℕ, ◌+◌, ◌*◌, ◌^◌, ◌%◌}
+use native.Mathlib.Omega.{arith}
+use Rattle.std.proofs.lemmas.Nat.{or_shifted}
 use Rattle.words.proofs.Parts.{zeros-past, number-halves}
 use Rattle.words.proofs.eight_words.Goals as goal
 
@@ -9,6 +11,9 @@ returns-then-words-at c = sym (zeros-past c.args.words.now c.args.at 8 c.if-word
 
 pub returns : goal.returns
 returns c =
-    let ws = c.args.words.now in
-    let at = c.args.at in
-    ap₂ (λ (x y : ℕ). x * 2 ^ 64 + y) c.block_at.ensures c.block_at-2.ensures ∙ number-halves ws at
+    let high = c.from-high.result in
+    let fits : high * 2 ^ 64 % 2 ^ 128 ≡ high * 2 ^ 64 = omega arith in
+    rw fits
+    (or_shifted high 64 c.from-low.result (omega arith)
+    ∙ ap₂ (λ (x y : ℕ). x * 2 ^ 64 + y) (c.from-high.ensures ∙ c.block_at-2.ensures) (c.from-low.ensures ∙ c.block_at.ensures)
+    ∙ number-halves c.args.words.now c.args.at)

@@ -1,21 +1,20 @@
--- The lowest four words, or all of them where they are fewer.
-use mathlib.Core.Path.{sym, ap, ◌∙◌}
-use native.Mathlib.Nat.{le_of_eq}
+-- The fold over the lowest four words, or over all of them where they are fewer.
+use mathlib.Core.Path.{◌≡◌, ap, ◌∙◌}
+use Rattle.std.specs.Prelude.{ℕ, List, ◌*◌, ◌^◌, ◌%◌, fold, reverse, length, min, take, bit_or}
+use Rattle.std.proofs.lemmas.List.{take_min}
+use borrow.Author.Rules.{rules}
 use native.Mathlib.Omega.{arith}
-use lib.Seq.{length-take-le, take_all}
+use lib.ListN.{length-take}
 use Rattle.words.specs.Words.{number_of}
+use Rattle.words.proofs.Words.{Words, words-take, joined}
 use Rattle.words.proofs.join.Goals as goal
 
-pub slice_bounds-join_few-end : goal.slice_bounds-join_few-end
-slice_bounds-join_few-end c = sym (length-take-le 4 c.args.words.now c.if-words-ge4.true)
-
-pub join_few-requires : goal.join_few-requires
-join_few-requires c = le_of_eq (length-take-le 4 c.args.words.now c.if-words-ge4.true)
-
-pub returns-then-words-ge4 : goal.returns-then-words-ge4
-returns-then-words-ge4 c = c.join_few.ensures
-
-pub returns-else-words-ge4 : goal.returns-else-words-ge4
-returns-else-words-ge4 c =
+pub returns : goal.returns
+returns c =
     let ws = c.args.words.now in
-    c.join_few-else-words-ge4.ensures ∙ ap number_of (sym (take_all 4 ws (omega arith)))
+    let n = c.min.result in
+    let small : Words ws = record { small = λ i. (c.type_inv.words i).fits } in
+    let folded : c.fold.result ≡ fold (λ (x w : ℕ). bit_or (x * 65536 % 2 ^ 64) w) 0 (reverse (take n ws)) = search rules in
+    let e : n ≡ min 4 (length ws) = omega arith in
+    let same : take n ws ≡ take 4 ws = ap (λ (k : ℕ). take k ws) e ∙ take_min 4 ws in
+    folded ∙ joined (take n ws) (words-take n small) (simp length-take (omega arith)) ∙ ap number_of same
