@@ -9,6 +9,7 @@ use Prim.Native.Nat.{ℕ, suc}
 use native.Mathlib.Omega.{arith}
 use lib.Dec.{eqb}
 use borrow.Author.Tests.{eqb-false, eqb-true}
+use Rattle.basics.proofs.First.{some_same}
 use Rattle.basics.proofs.Choice.{if-both, by_cases}
 use Rattle.partitions.specs.Map.{Map}
 use Rattle.partitions.specs.Fitness.{fit}
@@ -29,7 +30,7 @@ use Rattle.model.proofs.TransitionLife.{LifeAfter, kept, spent, went, transition
 use Rattle.model.proofs.Classes.{by-class}
 
 valid-state : {s n t k : ℕ} → valid_life s n ≡ valid_life t k → s ≡ t
-valid-state e = cc
+valid-state e = ap (λ (life : LifeCycle). life.state) (some_same e)
 
 module _ (prims : Primitives) (map : Map) (F : fit map ≡ true) where
   -- the life cycle words decode to a state that is not SCRAP

@@ -1,11 +1,12 @@
 -- The progress of the life cycle from a power-up on. The idea: a transition keeps it, spends a stroke or takes an entry of the table, and every other command
 -- keeps it.
 use Rattle.std.specs.Prelude.{Option}
-use mathlib.Core.Path.{◌≡◌, refl}
+use mathlib.Core.Path.{◌≡◌, refl, sym, ap, ◌∙◌}
 use mathlib.Core.Bool.{true}
 use mathlib.Core.List.{List, [], ◌∷◌, ◌++◌}
 use Prim.Native.Nat.{ℕ, ◌≤◌, suc}
 use native.Mathlib.Omega.{arith}
+use Rattle.basics.proofs.First.{some_same}
 use Rattle.partitions.specs.Map.{Map}
 use Rattle.partitions.specs.Fitness.{fit}
 use Rattle.life_cycle.specs.declared.LifeCycle.{LifeCycle}
@@ -77,15 +78,14 @@ module _ (prims : Primitives) (map : Map) (F : fit map ≡ true) where
       let h = since-reached prims map F m r l in
       life-not-four (transition-life prims map F (after prims map (PowerUp ∷ l) m) h.held.right (recorded prims map F _ h) target given)
 
+valid-count : {s n t k : ℕ} → valid_life s n ≡ valid_life t k → n ≡ k
+valid-count e = ap (λ (life : LifeCycle). life.count) (some_same e)
+
 -- the count never falls
 progress-count : {x y : Option LifeCycle} → Progress x y → (s n t k : ℕ) → x ≡ valid_life s n → y ≡ valid_life t k → n ≤ k
-progress-count stays s n t k e f = let q : n ≡ k = cc in omega arith
-progress-count (spends {state = s'} {count = n'} g) s n t k e f =
-    let q : suc n' ≡ k = cc in
-    omega (arith, progress-count g s n s' n' e refl)
-progress-count (moves {state = s'} {count = n'} g a) s n t k e f =
-    let q : suc n' ≡ k = cc in
-    omega (arith, progress-count g s n s' n' e refl)
+progress-count stays s n t k e f = omega (arith, valid-count (sym e ∙ f))
+progress-count (spends {state = s'} {count = n'} g) s n t k e f = omega (arith, valid-count f, progress-count g s n s' n' e refl)
+progress-count (moves {state = s'} {count = n'} g a) s n t k e f = omega (arith, valid-count f, progress-count g s n s' n' e refl)
 
 pub counts : (s n t k : ℕ) → Progress (valid_life s n) (valid_life t k) → n ≤ k
 counts s n t k c = progress-count c s n t k refl refl
