@@ -1,18 +1,14 @@
 -- Eight words are one chunk of two blocks. The idea: the blocks of the words from the ninth on are the blocks from the third on.
-use mathlib.Core.Path.{◌≡◌, ap, ◌∙◌}
-use mathlib.Core.List.{List}
-use Prim.Native.Nat.{ℕ, suc, ◌+◌, ◌*◌, ◌-◌, ◌/◌, ◌^◌, ◌≤◌, ◌<◌}
-use native.Mathlib.Nat.{zero-add, add-zero}
-use native.Mathlib.Omega.{arith}
-use lib.Dec.{ltb}
-use lib.ListN.{length, drop, length-drop}
-use lib.Seq.{drop-drop}
-use borrow.Author.Tests.{ltb-true, ltb-false}
+use Rattle.std.proofs.Common.{◌≡◌, sym, ap, ap₂, ◌∙◌, ℕ, suc, ◌+◌, ◌*◌, ◌-◌, ◌/◌, ◌^◌, ◌≤◌, ◌<◌, min, List, ◌++◌, length, get_or, drop, arith, ltb-true, ltb-false}
+use Rattle.std.proofs.Math.Nat.{zero-add}
+use Rattle.std.proofs.Math.Dec.{ltb}
+use Rattle.std.proofs.Math.Seq.{drop-append_seam}
+use Rattle.std.proofs.lemmas.List.{length-drop, length-append, append-nil, get_or_append_left, nil_from_length}
 use Rattle.basics.specs.Range.{listed}
 use Rattle.basics.proofs.Choice.{by_cases}
 use Rattle.basics.proofs.Range.{listed-shift}
 use Rattle.words.specs.Words.{number_of, part_at}
-use Rattle.words.proofs.Parts.{part-drop, zeros-past}
+use Rattle.words.proofs.Parts.{part_same, part-drop, zeros-past, number-halves}
 use Rattle.digest.specs.Digest.{absorb, absorb_all, blocks_of}
 
 -- block i of words
@@ -37,14 +33,6 @@ absorb-chunk s ws h =
     let e : (length ws + 3) / 4 ≡ suc (suc n) = omega arith in
     rw (e, length-drop 8 ws) (ap (absorb_all (absorb (chunk ws) s)) (blocks-later ws n))
 
--- the chunk that starts at a word of a longer list
-pub absorb-from : (s : ℕ) (ws : List ℕ) (at : ℕ) → at + 8 ≤ length ws
-    → absorb_all s (blocks_of (drop at ws))
-    ≡ absorb_all (absorb (number_of (part_at ws (at + 4) 4) * 2 ^ 64 + number_of (part_at ws at 4)) s) (blocks_of (drop (at + 8) ws))
-absorb-from s ws at h =
-    absorb-chunk s (drop at ws) (rw length-drop (omega arith))
-    ∙ rw (part-drop ws at 4 4, part-drop ws at 0 4, add-zero, drop-drop 8 at ws)
-
 one_block : (s : ℕ) (ws : List ℕ) → 0 < length ws → length ws ≤ 4 → absorb (chunk ws) s ≡ absorb_all s (blocks_of ws)
 unfolding blocks_of absorb_all listed
 one_block s ws l u =
@@ -57,10 +45,33 @@ two_blocks s ws l u =
     let e : (length ws + 3) / 4 ≡ 2 = omega arith in
     rw e
 
--- the last chunk, of fewer than eight words: an odd last block has a zero high half
-pub absorb-rest : (s : ℕ) (ws : List ℕ) → 0 < length ws → length ws < 8 → absorb (chunk ws) s ≡ absorb_all s (blocks_of ws)
-absorb-rest s ws l u = by_cases (ltb 4 (length ws)) (λ t. two_blocks s ws (ltb-true _ _ t) u) (λ t. one_block s ws l (ltb-false _ _ t))
+-- a last chunk of fewer than eight words: an odd last block has a zero high half
+absorb-rest : (s : ℕ) (ws : List ℕ) → 0 < length ws → length ws < 8 → absorb_all s (blocks_of ws) ≡ absorb (chunk ws) s
+absorb-rest s ws l u =
+    sym (by_cases (ltb 4 (length ws)) (λ t. two_blocks s ws (ltb-true _ _ t) u) (λ t. one_block s ws l (ltb-false _ _ t)))
 
 pub absorb-none : (s : ℕ) (ws : List ℕ) → length ws ≡ 0 → absorb_all s (blocks_of ws) ≡ s
 unfolding blocks_of absorb_all listed
 absorb-none s ws e = rw e
+
+-- the next of the chunks that words are cut into
+pub absorb-next : (s : ℕ) (ws piece rest : List ℕ) → ws ≡ piece ++ rest → length piece ≡ min 8 (length ws) → 0 < length ws
+    → absorb_all s (blocks_of ws) ≡ absorb_all (absorb (number_of (part_at piece 0 8)) s) (blocks_of rest)
+absorb-next s ws piece rest e size some =
+    let total : length ws ≡ length piece + length rest = ap length e ∙ length-append piece rest in
+    by_cases (ltb (length ws) 8)
+    (λ t.
+    let short = ltb-true _ _ t in
+    let none : length rest ≡ 0 = omega arith in
+    let whole : ws ≡ piece = e ∙ ap (λ xs. piece ++ xs) (nil_from_length rest none) ∙ append-nil piece in
+    absorb-rest s ws some short ∙ ap (λ k. absorb k s) (key ∙ ap (λ xs. number_of (part_at xs 0 8)) whole) ∙ sym (absorb-none _ rest none))
+    (λ t.
+    let long = ltb-false _ _ t in
+    let eight : length piece ≡ 8 = omega arith in
+    let same : part_at ws 0 8 ≡ part_at piece 0 8 =
+    part_same ws piece 0 8 (λ j l u. ap (λ xs. get_or xs j 0) e ∙ get_or_append_left piece rest 0 j (omega arith)) in
+    let later : drop 8 ws ≡ rest = ap (drop 8) e ∙ ap (λ n. drop n (piece ++ rest)) (sym eight) ∙ drop-append_seam piece rest in
+    absorb-chunk s ws long ∙ ap₂ (λ k xs. absorb_all (absorb k s) (blocks_of xs)) (key ∙ ap number_of same) later)
+  where
+    key : chunk ws ≡ number_of (part_at ws 0 8)
+    key = number-halves ws 0

@@ -1,39 +1,26 @@
 // The digest construction over the block cipher.
 #![tactic(auto)]
 
-ghost use Rattle.std.specs.Prelude.{◌≡◌, ◌+◌, ◌*◌, ◌^◌, ◌<◌, length};
-ghost use Rattle.digest.specs.Digest.{absorb, absorb_all, blocks_of, digest_words};
+ghost use Rattle.std.specs.Prelude.{◌≡◌};
+ghost use Rattle.digest.specs.Digest.{absorb, digest_words};
 
-use words::block_at;
+use words::eight_words;
 
-// The step of the construction with the key of two halves.
-fn absorbed(key_high: u64, key_low: u64, state: u64) -> u64
-    ensures { result ≡ absorb (key_high * 2 ^ 64 + key_low) state }
+// The step of the construction.
+#[tactic(auto, unfolding(crate::specs::Digest::absorb))]
+fn absorbed(key: u128, state: u64) -> u64
+    ensures { result ≡ absorb key state }
 {
-    present::encrypt(key_high, key_low, state) ^ state
+    present::encrypt(key, state) ^ state
 }
 
-// The last chunk, of fewer than eight words; where there is none, the state stays.
-fn absorbed_rest(state: u64, words: &[u16]) -> u64
-    requires { length words.now < 8 }
-    ensures { result ≡ absorb_all state (blocks_of words.now) }
-{
-    if words.len() == 0 {
-        return state;
-    }
-    absorbed(block_at(words, 4), block_at(words, 0), state)
-}
-
-// The digest of words from a start value, closed with a final key of two halves.
-pub fn digest(start: u64, final_high: u64, final_low: u64, words: &[u16]) -> u64
-    ensures { result ≡ digest_words start (final_high * 2 ^ 64 + final_low) words.now }
+// The digest of words from a start value, closed with a final key. A last chunk of fewer than eight words has zeros past them.
+pub fn digest(start: u64, final_key: u128, words: &[u16]) -> u64
+    ensures { result ≡ digest_words start final_key words.now }
 {
     let mut state = start;
-    let mut at = 0;
-    while 8 <= words.len() - at {
-        state = absorbed(block_at(words, at + 4), block_at(words, at), state);
-        at += 8;
+    for chunk in words.chunks(8) {
+        state = absorbed(eight_words(chunk, 0), state);
     }
-    let last = absorbed_rest(state, &words[at..]);
-    absorbed(final_high, final_low, last)
+    absorbed(final_key, state)
 }

@@ -1,5 +1,5 @@
 -- The token comparisons of a transition. The idea: an act compares once at most, and the code of its answer fixes whether it did and with which result.
-use Rattle.std.specs.Prelude.{Err, Result, ⊤}
+use Rattle.std.specs.Prelude.{Err, Result, ⊤, Option, Some, None}
 use mathlib.Core.Path.{◌≡◌, refl, ap}
 use mathlib.Core.Bool.{Bool, true, false}
 use mathlib.Core.List.{List, [], ◌∷◌}
@@ -14,8 +14,6 @@ use Rattle.words.specs.Programming.{program_answer}
 use Rattle.partitions.specs.Map.{Map}
 use Rattle.life_cycle.specs.declared.Token.{Token}
 use Rattle.life_cycle.specs.declared.Token.TheVariants.{Nothing, RawUnlock, TestUnlock, TestExit, Rma}
-use Rattle.life_cycle.specs.declared.Entry.{Entry}
-use Rattle.life_cycle.specs.declared.Entry.TheVariants.{Allowed, Forbidden}
 use Rattle.life_cycle.specs.Words.{counter_words, state_words}
 use Rattle.life_cycle.specs.Transitions.{table_entry}
 use Rattle.model.specs.declared.Failure.TheVariants.{TokenDiffers}
@@ -43,17 +41,17 @@ token_number TestUnlock = 2
 token_number TestExit = 3
 token_number Rma = 4
 
-abbrev entry_number : Entry → ℕ
-entry_number Forbidden = 5
-entry_number (Allowed token) = token_number token
+abbrev entry_number : Option Token → ℕ
+entry_number None = 5
+entry_number (Some token) = token_number token
 
-module _ (entry : Entry) where
+module _ (entry : Option Token) where
   -- what a code says of the comparisons, where the table has this entry
   pub record ByCode (code : ℕ) (compared : List Bool) : Type 0 where
     pub differs : code ≡ 0x23 → compared ≡ false ∷ []
-    pub free : code ≡ 0x00 → entry ≡ Allowed Nothing → compared ≡ []
-    pub same : code ≡ 0x00 → (entry ≡ Allowed Nothing → ⊥) → compared ≡ true ∷ []
-    pub refused : code ≡ 0x04 → (compared ≡ []) ⊎ ((entry ≡ Allowed Nothing → ⊥) × (compared ≡ true ∷ []))
+    pub free : code ≡ 0x00 → entry ≡ Some Nothing → compared ≡ []
+    pub same : code ≡ 0x00 → (entry ≡ Some Nothing → ⊥) → compared ≡ true ∷ []
+    pub refused : code ≡ 0x04 → (compared ≡ []) ⊎ ((entry ≡ Some Nothing → ⊥) × (compared ≡ true ∷ []))
     pub other : (code ≡ 0x23 → ⊥) → (code ≡ 0x00 → ⊥) → (code ≡ 0x04 → ⊥) → compared ≡ []
 
   abbrev ResultByCode : Performed → Type 0
@@ -70,7 +68,7 @@ module _ (entry : Entry) where
   }
 
   -- a 4 after a token that agrees
-  four_same : (entry ≡ Allowed Nothing → ⊥) → ByCode 0x04 (true ∷ [])
+  four_same : (entry ≡ Some Nothing → ⊥) → ByCode 0x04 (true ∷ [])
   four_same n = record {
     differs = λ q. absurd (omega arith);
     free = λ q. absurd (omega arith);
@@ -79,13 +77,13 @@ module _ (entry : Entry) where
     other = λ a b c. absurd (c refl);
   }
 
-module _ (prims : Primitives) (map : Map) (m : Machine) (target given : ℕ) (entry : Entry) (l : Lent) where
+module _ (prims : Primitives) (map : Map) (m : Machine) (target given : ℕ) (entry : Option Token) (l : Lent) where
   -- what an authorization comes to
   abbrev Comes : Authorization → Type 0
   Comes a = ResultByCode entry (perform (authorized_act prims map m a target) l)
 
   -- a move after no token
-  moves-free : entry ≡ Allowed Nothing → Comes free
+  moves-free : entry ≡ Some Nothing → Comes free
   unfolding authorized_act move_act perform
   moves-free e =
       after_both (ResultByCode entry) (program_answer life_cycle_rule l.cells (state_at map) (state_words m.lent.constants target)) _ _
@@ -99,7 +97,7 @@ module _ (prims : Primitives) (map : Map) (m : Machine) (target given : ℕ) (en
       (λ cell q. without entry 0x04 refl refl)
 
   -- a move after a token that agrees
-  moves-same : (entry ≡ Allowed Nothing → ⊥) → ResultByCode entry (with_comparison true (perform (move_act prims map m target) l))
+  moves-same : (entry ≡ Some Nothing → ⊥) → ResultByCode entry (with_comparison true (perform (move_act prims map m target) l))
   unfolding move_act perform with_comparison
   moves-same n =
       after_both (λ (r : Performed). ResultByCode entry (with_comparison true r))
@@ -113,7 +111,7 @@ module _ (prims : Primitives) (map : Map) (m : Machine) (target given : ℕ) (en
       })
       (λ cell q. four_same entry n)
 
-  compares : (entry ≡ Allowed Nothing → ⊥) → (test : Lent → Bool) → Comes (by_token test)
+  compares : (entry ≡ Some Nothing → ⊥) → (test : Lent → Bool) → Comes (by_token test)
   unfolding authorized_act perform
   compares n test = by_result (test l)
     where
@@ -128,7 +126,7 @@ module _ (prims : Primitives) (map : Map) (m : Machine) (target given : ℕ) (en
         other = λ a. absurd (a refl);
       })
 
-  locked : (token : Token) → (entry ≡ Allowed Nothing → ⊥) → Comes (locked_token prims map m.session token given)
+  locked : (token : Token) → (entry ≡ Some Nothing → ⊥) → Comes (locked_token prims map m.session token given)
   unfolding locked_token
   locked token n =
       if-both Comes _ _ _ (λ t. unfold authorized_act perform in (without entry 0x22 refl refl))
@@ -136,21 +134,21 @@ module _ (prims : Primitives) (map : Map) (m : Machine) (target given : ℕ) (en
 
 module _ (prims : Primitives) (map : Map) (m : Machine) (target given : ℕ) where
   -- a token is not none
-  some-token : {token : Token} → eqb (token_number token) 0 ≡ false → Allowed token ≡ Allowed Nothing → ⊥
+  some-token : {token : Token} → eqb (token_number token) 0 ≡ false → Some token ≡ Some Nothing → ⊥
   some-token {token} t e = eqb-false (token_number token) 0 t (ap entry_number e)
 
-  asks : (entry : Entry) (l : Lent) → Comes prims map m target given entry l (authorization prims map m.session entry given)
+  asks : (entry : Option Token) (l : Lent) → Comes prims map m target given entry l (authorization prims map m.session entry given)
   unfolding authorization token_authorization
-  asks Forbidden l = unfold authorized_act perform in (without Forbidden 0x21 refl refl)
-  asks (Allowed Nothing) l = moves-free prims map m target given (Allowed Nothing) l refl
-  asks (Allowed RawUnlock) l =
-      compares prims map m target given (Allowed RawUnlock) l (some-token refl) (λ l. hashes_to prims given (raw_unlock_hash l.constants))
-  asks (Allowed TestUnlock) l = locked prims map m target given (Allowed TestUnlock) l TestUnlock (some-token refl)
-  asks (Allowed TestExit) l = locked prims map m target given (Allowed TestExit) l TestExit (some-token refl)
-  asks (Allowed Rma) l = locked prims map m target given (Allowed Rma) l Rma (some-token refl)
+  asks None l = unfold authorized_act perform in (without None 0x21 refl refl)
+  asks (Some Nothing) l = moves-free prims map m target given (Some Nothing) l refl
+  asks (Some RawUnlock) l =
+      compares prims map m target given (Some RawUnlock) l (some-token refl) (λ l. hashes_to prims given (raw_unlock_hash l.constants))
+  asks (Some TestUnlock) l = locked prims map m target given (Some TestUnlock) l TestUnlock (some-token refl)
+  asks (Some TestExit) l = locked prims map m target given (Some TestExit) l TestExit (some-token refl)
+  asks (Some Rma) l = locked prims map m target given (Some Rma) l Rma (some-token refl)
 
 module _ (prims : Primitives) (map : Map) (m : Machine) (target given : ℕ) where
-  abbrev entry : Entry
+  abbrev entry : Option Token
   entry = table_entry m.session.state target
 
   abbrev ActByCode : Act → Type 0

@@ -8,7 +8,6 @@ use native.Mathlib.Omega.{arith}
 use Rattle.basics.proofs.Choice.{if-both, true-not-false, by_cases}
 use Rattle.partitions.specs.Map.{Map}
 use Rattle.life_cycle.specs.declared.LifeCycle.{LifeCycle}
-use Rattle.life_cycle.specs.declared.LifeCycle.TheVariants.{Valid, Invalid}
 use Rattle.model.specs.declared.Reason.{Reason}
 use Rattle.model.specs.declared.Reason.TheVariants.{BitCleared, DigestFailed, LifeCycleFailed}
 use Rattle.model.specs.declared.Phase.{Phase}
@@ -71,12 +70,12 @@ module _ (prims : Primitives) (map : Map) (m : Machine) where
     abbrev pub ReasonNamed : Step → Type 0
     ReasonNamed s = (s.result.machine ≡ m → ⊥) → s.result.machine.session.phase ≡ Dead reason → code_of s.result.answer ≡ reason_code reason
 
-    powered-reason : (v : Option ℕ) (life : LifeCycle) (l : Lent) → (powered_session map (end_of v life) l).phase ≡ Dead reason
+    powered-reason : (v : Option ℕ) (life : Option LifeCycle) (l : Lent) → (powered_session map (end_of v life) l).phase ≡ Dead reason
         → code_of (powered_answer (end_of v life)) ≡ reason_code reason
     unfolding end_of life_cycle_end powered_session powered_answer dead-code
     powered-reason (Some number) life l = ap dead-code
-    powered-reason None Invalid l = ap dead-code
-    powered-reason None (Valid state count) l =
+    powered-reason None None l = ap dead-code
+    powered-reason None (Some life) l =
         if-both (λ (w : PowerUpEnd). (powered_session map w l).phase ≡ Dead reason → code_of (powered_answer w) ≡ reason_code reason) _ _ _
         (λ t. ap dead-code) (λ t e. absurd (not_dead e refl))
 

@@ -9,18 +9,18 @@ use Prim.Native.Nat.{ℕ, suc}
 use native.Mathlib.Omega.{arith}
 use lib.Dec.{eqb}
 use borrow.Author.Tests.{eqb-false, eqb-true}
+use Rattle.basics.proofs.First.{some_same}
 use Rattle.basics.proofs.Choice.{if-both, by_cases}
 use Rattle.partitions.specs.Map.{Map}
 use Rattle.partitions.specs.Fitness.{fit}
 use Rattle.life_cycle.specs.declared.LifeCycle.{LifeCycle}
-use Rattle.life_cycle.specs.declared.LifeCycle.TheVariants.{Valid}
 use Rattle.model.specs.declared.Command.{Command}
 use Rattle.model.specs.declared.Command.TheVariants.{Transition, PowerUp}
 use Rattle.model.specs.Answers.{code_of}
 use Rattle.model.specs.Lent.{Machine, Primitives}
 use Rattle.model.specs.PowerUp.{PowerUpEnd, verdict_of, life_cycle_in, power_up_end, end_of, life_cycle_end, powered_answer}
 use Rattle.model.specs.Step.{Step, unchanged, power_up, after, machine_after, answer_to, obey}
-use Rattle.model.specs.Claims.Terms.{ValidInputs}
+use Rattle.model.specs.Claims.Terms.{ValidInputs, valid_life}
 use Rattle.model.specs.Claims.FailedPowerUps.{Scrapped}
 use Rattle.model.specs.Commands.{class_of, access}
 use Rattle.model.proofs.Steps.{step-all, step-up, step_both}
@@ -29,15 +29,15 @@ use Rattle.model.proofs.Since.{Reached, first-reached, step-reached, recorded, f
 use Rattle.model.proofs.TransitionLife.{LifeAfter, kept, spent, went, transition-life}
 use Rattle.model.proofs.Classes.{by-class}
 
-valid-state : {s n t k : ℕ} → Valid s n ≡ Valid t k → s ≡ t
-valid-state e = cc
+valid-state : {s n t k : ℕ} → valid_life s n ≡ valid_life t k → s ≡ t
+valid-state e = ap (λ (life : LifeCycle). life.state) (some_same e)
 
 module _ (prims : Primitives) (map : Map) (F : fit map ≡ true) where
   -- the life cycle words decode to a state that is not SCRAP
   record Working (m : Machine) : Type 0 where
     state : ℕ
     count : ℕ
-    decodes : life_cycle_in map m.lent ≡ Valid state count
+    decodes : life_cycle_in map m.lent ≡ valid_life state count
     not_scrap : state ≡ 20 → ⊥
 
   working-same : (m m' : Machine) → life_cycle_in map m'.lent ≡ life_cycle_in map m.lent → Working m → Working m'
@@ -95,7 +95,7 @@ module _ (prims : Primitives) (map : Map) (F : fit map ≡ true) where
   }
 
   -- a power-up of a chip whose life cycle works does not answer 7
-  power-up-working : (v : Option ℕ) (life : LifeCycle) (state count : ℕ) → life ≡ Valid state count → (state ≡ 20 → ⊥)
+  power-up-working : (v : Option ℕ) (life : Option LifeCycle) (state count : ℕ) → life ≡ valid_life state count → (state ≡ 20 → ⊥)
       → code_of (powered_answer (end_of v life)) ≡ 0x07 → ⊥
   unfolding powered_answer end_of life_cycle_end
   power-up-working (Some number) life state count e n = λ z. omega arith

@@ -1,21 +1,22 @@
 -- The progress of the life cycle from a power-up on. The idea: a transition keeps it, spends a stroke or takes an entry of the table, and every other command
 -- keeps it.
-use mathlib.Core.Path.{◌≡◌, refl}
+use Rattle.std.specs.Prelude.{Option}
+use mathlib.Core.Path.{◌≡◌, refl, sym, ap, ◌∙◌}
 use mathlib.Core.Bool.{true}
 use mathlib.Core.List.{List, [], ◌∷◌, ◌++◌}
 use Prim.Native.Nat.{ℕ, ◌≤◌, suc}
 use native.Mathlib.Omega.{arith}
+use Rattle.basics.proofs.First.{some_same}
 use Rattle.partitions.specs.Map.{Map}
 use Rattle.partitions.specs.Fitness.{fit}
 use Rattle.life_cycle.specs.declared.LifeCycle.{LifeCycle}
-use Rattle.life_cycle.specs.declared.LifeCycle.TheVariants.{Valid}
 use Rattle.model.specs.declared.Command.{Command}
 use Rattle.model.specs.declared.Command.TheVariants.{Transition, PowerUp}
 use Rattle.model.specs.Answers.{code_of}
 use Rattle.model.specs.Lent.{Machine, Primitives}
 use Rattle.model.specs.PowerUp.{life_cycle_in}
 use Rattle.model.specs.Step.{Step, unchanged, after, machine_after, answer_to, obey}
-use Rattle.model.specs.Claims.Terms.{ValidInputs}
+use Rattle.model.specs.Claims.Terms.{ValidInputs, valid_life}
 use Rattle.model.specs.Claims.Transitions.{Progress, stays, spends, moves}
 use Rattle.model.specs.Commands.{class_of, access}
 use Rattle.model.proofs.Steps.{after-append, step-all, step_both}
@@ -41,7 +42,7 @@ module _ (prims : Primitives) (map : Map) (F : fit map ≡ true) where
       step_both prims map (λ (s : Step). Progress (life_cycle_in map m.lent) (life_cycle_in map s.result.machine.lent)) PowerUp m (λ answer j. stays)
       (rw (up-life prims map F m) stays)
 
-  life-progress : {m : Machine} {target code : ℕ} {life : LifeCycle} → LifeAfter prims map m target code life → Progress (life_cycle_in map m.lent) life
+  life-progress : {m : Machine} {target code : ℕ} {life : Option LifeCycle} → LifeAfter prims map m target code life → Progress (life_cycle_in map m.lent) life
   life-progress (kept s z f e) = rw e stays
   life-progress (spent s v e) = rw (e, v) (spends stays)
   life-progress (went z v a e) = rw (e, v) (moves stays a)
@@ -56,7 +57,7 @@ module _ (prims : Primitives) (map : Map) (F : fit map ≡ true) where
 
   -- ---- a list of commands
 
-  progress-trans : {x y z : LifeCycle} → Progress x y → Progress y z → Progress x z
+  progress-trans : {x y z : Option LifeCycle} → Progress x y → Progress y z → Progress x z
   progress-trans f stays = f
   progress-trans f (spends g) = spends (progress-trans f g)
   progress-trans f (moves g a) = moves (progress-trans f g) a
@@ -77,15 +78,14 @@ module _ (prims : Primitives) (map : Map) (F : fit map ≡ true) where
       let h = since-reached prims map F m r l in
       life-not-four (transition-life prims map F (after prims map (PowerUp ∷ l) m) h.held.right (recorded prims map F _ h) target given)
 
--- the count never falls
-progress-count : {x y : LifeCycle} → Progress x y → (s n t k : ℕ) → x ≡ Valid s n → y ≡ Valid t k → n ≤ k
-progress-count stays s n t k e f = let q : n ≡ k = cc in omega arith
-progress-count (spends {state = s'} {count = n'} g) s n t k e f =
-    let q : suc n' ≡ k = cc in
-    omega (arith, progress-count g s n s' n' e refl)
-progress-count (moves {state = s'} {count = n'} g a) s n t k e f =
-    let q : suc n' ≡ k = cc in
-    omega (arith, progress-count g s n s' n' e refl)
+valid-count : {s n t k : ℕ} → valid_life s n ≡ valid_life t k → n ≡ k
+valid-count e = ap (λ (life : LifeCycle). life.count) (some_same e)
 
-pub counts : (s n t k : ℕ) → Progress (Valid s n) (Valid t k) → n ≤ k
+-- the count never falls
+progress-count : {x y : Option LifeCycle} → Progress x y → (s n t k : ℕ) → x ≡ valid_life s n → y ≡ valid_life t k → n ≤ k
+progress-count stays s n t k e f = omega (arith, valid-count (sym e ∙ f))
+progress-count (spends {state = s'} {count = n'} g) s n t k e f = omega (arith, valid-count f, progress-count g s n s' n' e refl)
+progress-count (moves {state = s'} {count = n'} g a) s n t k e f = omega (arith, valid-count f, progress-count g s n s' n' e refl)
+
+pub counts : (s n t k : ℕ) → Progress (valid_life s n) (valid_life t k) → n ≤ k
 counts s n t k c = progress-count c s n t k refl refl

@@ -1,4 +1,5 @@
 -- The tables of the life cycle in literal numbers. The idea: each is computed; a fact of all states and targets is a computed test.
+use Rattle.std.specs.Prelude.{Option, Some, None}
 use mathlib.Core.Path.{◌≡◌, refl, sym, ap, subst, ◌∙◌}
 use mathlib.Core.Bool.{Bool, true, false, not}
 use mathlib.Core.List.{List}
@@ -15,8 +16,6 @@ use Rattle.basics.proofs.Choice.{true-not-false, to-T, if-false}
 use Rattle.basics.proofs.Range.{all-at}
 use Rattle.partitions.specs.Map.{Map}
 use Rattle.life_cycle.specs.declared.Token.{Token}
-use Rattle.life_cycle.specs.declared.Entry.{Entry}
-use Rattle.life_cycle.specs.declared.Entry.TheVariants.{Allowed, Forbidden}
 use Rattle.life_cycle.specs.Words.{counter_word, counter_words, has_b, state_word, state_words}
 use Rattle.life_cycle.specs.Transitions.{is_test, is_unlocked, is_locked, test_index, table_entry}
 use Rattle.life_cycle.proofs.Encoding.{counter-at, state-at}
@@ -67,17 +66,17 @@ counter-words constants count i p h = counter-at constants count i h ∙ if-fals
 
 -- ---- tokens
 
-allowed_same : {a b : Token} → Allowed a ≡ Allowed b → a ≡ b
+allowed_same : {a b : Token} → Some a ≡ Some b → a ≡ b
 allowed_same e = cc
 
 -- out of TEST_LOCKED the table asks for TEST_UNLOCK or TEST_EXIT, or goes to SCRAP
-asks_one : Entry → ℕ → Bool
-asks_one Forbidden target = true
-asks_one (Allowed token.Nothing) target = eqb target 20
-asks_one (Allowed token.RawUnlock) target = false
-asks_one (Allowed token.TestUnlock) target = true
-asks_one (Allowed token.TestExit) target = true
-asks_one (Allowed token.Rma) target = false
+asks_one : Option Token → ℕ → Bool
+asks_one None target = true
+asks_one (Some token.Nothing) target = eqb target 20
+asks_one (Some token.RawUnlock) target = false
+asks_one (Some token.TestUnlock) target = true
+asks_one (Some token.TestExit) target = true
+asks_one (Some token.Rma) target = false
 
 locked-asks : (i target : ℕ) → i < 7 → target < 21 → asks_one (table_entry (2 * i + 2) target) target ≡ true
 unfolding asks_one all_below table_entry is_test is_unlocked is_locked test_index when◌then◌else◌
@@ -85,7 +84,7 @@ locked-asks i target l h =
     all-at 21 (λ t. asks_one (table_entry (2 * i + 2) t) t) (to-T (all-at 7 (λ i. all_below 21 (λ t. asks_one (table_entry (2 * i + 2) t) t)) tt i l)) target h
 
 module _ (prims : Primitives) (map : Map) (machine : Machine) where
-  one_of : (given target : ℕ) (k : Token) → asks_one (Allowed k) target ≡ true → (target ≡ 20 → ⊥) → Compared prims map machine given true k
+  one_of : (given target : ℕ) (k : Token) → asks_one (Some k) target ≡ true → (target ≡ 20 → ⊥) → Compared prims map machine given true k
       → Compared prims map machine given true token.TestUnlock ⊎ Compared prims map machine given true token.TestExit
   unfolding asks_one
   one_of given target token.Nothing e n c = absurd (true-not-false e (ne_eqb target 20 n))
@@ -99,10 +98,10 @@ module _ (prims : Primitives) (map : Map) (machine : Machine) where
       → Compared prims map machine given true token.TestUnlock ⊎ Compared prims map machine given true token.TestExit
   out-of-locked i target given l e n z =
       let a = (tokens-compared prims map machine target given).0 z in
-      let allowed : table_entry (2 * i + 2) target ≡ Allowed a.token = sym (ap (λ (s : ℕ). table_entry s target) e) ∙ a.allowed in
+      let allowed : table_entry (2 * i + 2) target ≡ Some a.token = sym (ap (λ (s : ℕ). table_entry s target) e) ∙ a.allowed in
       let within = (allowed-ends (2 * i + 2) target allowed).within in
       one_of given target a.token
-      (subst (λ (x : Entry). asks_one x target ≡ true) allowed (locked-asks i target l (omega (arith, within)))) n a.compared
+      (subst (λ (x : Option Token). asks_one x target ≡ true) allowed (locked-asks i target l (omega (arith, within)))) n a.compared
 
   to-rma : (given : ℕ) → ((machine.session.state ≡ 16) ⊎ (machine.session.state ≡ 17))
       → code_of (answer_to prims map (Transition 19 given) machine) ≡ 0x00 → Compared prims map machine given true token.Rma
@@ -111,10 +110,10 @@ module _ (prims : Primitives) (map : Map) (machine : Machine) where
       a : Asked prims map machine 19 given true
       a = (tokens-compared prims map machine 19 given).0 z
 
-      dev : machine.session.state ≡ 16 → table_entry machine.session.state 19 ≡ Allowed token.Rma
+      dev : machine.session.state ≡ 16 → table_entry machine.session.state 19 ≡ Some token.Rma
       dev e = unfold table_entry is_test is_unlocked is_locked test_index when◌then◌else◌ in (rw e refl)
 
-      prod : machine.session.state ≡ 17 → table_entry machine.session.state 19 ≡ Allowed token.Rma
+      prod : machine.session.state ≡ 17 → table_entry machine.session.state 19 ≡ Some token.Rma
       prod e = unfold table_entry is_test is_unlocked is_locked test_index when◌then◌else◌ in (rw e refl)
 
 module _ (prims : Primitives) (map : Map) where

@@ -1,6 +1,6 @@
 -- The life cycle words of a machine. The idea: where they decode to the record's state and count, the words of one stroke more, and of an allowed state, cover
 -- them, so that both are taken and decode to the next count and state; every command but a transition leaves them.
-use Rattle.std.specs.Prelude.{Ok}
+use Rattle.std.specs.Prelude.{Ok, Some}
 use mathlib.Core.Path.{◌≡◌, refl, ap₂, ◌∙◌}
 use mathlib.Core.Bool.{true}
 use mathlib.Core.List.{List}
@@ -15,9 +15,7 @@ use Rattle.words.proofs.Programming.{program-elsewhere, program-takes, program-l
 use Rattle.partitions.specs.Map.{Map, number_of_kind}
 use Rattle.partitions.specs.Fitness.{fit}
 use Rattle.partitions.proofs.Map.{life-cycle-last, life-cycle-partition, partition-fit}
-use Rattle.life_cycle.specs.declared.LifeCycle.TheVariants.{Valid}
 use Rattle.life_cycle.specs.declared.Token.{Token}
-use Rattle.life_cycle.specs.declared.Entry.TheVariants.{Allowed}
 use Rattle.life_cycle.specs.Words.{counter_words, state_words, decoded}
 use Rattle.life_cycle.specs.Transitions.{table_entry}
 use Rattle.life_cycle.proofs.Encoding.{counter-length, state-length}
@@ -29,7 +27,7 @@ use Rattle.model.specs.Lent.{Lent, Machine, Primitives, with_cells}
 use Rattle.model.specs.Commands.{life_cycle_rule, counter_at, state_at, class_of, access}
 use Rattle.model.specs.PowerUp.{life_cycle_in}
 use Rattle.model.specs.Step.{performed, act, power_up}
-use Rattle.model.specs.Claims.Terms.{ValidInputs}
+use Rattle.model.specs.Claims.Terms.{ValidInputs, valid_life}
 use Rattle.model.proofs.Acts.{perform-frame}
 use Rattle.model.proofs.Frame.{Programmable, unlocked, life_cycle, life-words, life-closed, life-same, act-open}
 use Rattle.model.proofs.Steps.{cells-length, after_act, powered_up}
@@ -38,7 +36,7 @@ use Rattle.partitions.specs.declared.Kind.TheVariants as kind
 
 -- the life cycle words decode to the record's state and count
 abbrev pub Recorded : Primitives → Map → Machine → Type 0
-Recorded prims map m = life_cycle_in map m.lent ≡ Valid m.session.state m.session.count
+Recorded prims map m = life_cycle_in map m.lent ≡ valid_life m.session.state m.session.count
 
 -- what is decoded depends on cells and constants alone
 pub life-of : (map : Map) (l l' : Lent) → l.cells ≡ l'.cells → l.constants ≡ l'.constants → life_cycle_in map l ≡ life_cycle_in map l'
@@ -75,7 +73,7 @@ module _ (prims : Primitives) (map : Map) (F : fit map ≡ true) (m : Machine) (
       part_same cells₁ m.lent.cells _ 20 (λ j l u. program-elsewhere life_cycle_rule m.lent.cells counter (counter_at map) j (λ a b. omega (arith, short)))
       ∙ says.1
 
-  pub move-fits : (target : ℕ) {token : Token} → table_entry m.session.state target ≡ Allowed token
+  pub move-fits : (target : ℕ) {token : Token} → table_entry m.session.state target ≡ Some token
       → program_answer life_cycle_rule cells₁ (state_at map) (state_words k target) ≡ Ok tt
   move-fits target a = transition-done k r.valid cells₁ (state_at map) m.session.state target state-stays a
 
@@ -126,19 +124,19 @@ module _ (prims : Primitives) (map : Map) (F : fit map ≡ true) where
     -- what these words decode to
     decodes : (cells : List ℕ) (state : ℕ) → state ≤ 20 → part_at cells (counter_at map) 24 ≡ strokes
         → part_at cells (state_at map) 20 ≡ state_words t state
-        → life_cycle_in map (with_cells cells m.lent) ≡ Valid state (suc m.session.count)
+        → life_cycle_in map (with_cells cells m.lent) ≡ valid_life state (suc m.session.count)
     unfolding life_cycle_in
     decodes cells state l e f =
         ap₂ (λ (x y : List ℕ). decoded t x y) e f
         ∙ decoded-valid t (record { small = r.words }) r.valid state (suc m.session.count) l space (λ z. absurd (omega arith))
 
-    pub spent-life : life_cycle_in map (with_cells c₁ m.lent) ≡ Valid m.session.state (suc m.session.count)
+    pub spent-life : life_cycle_in map (with_cells c₁ m.lent) ≡ valid_life m.session.state (suc m.session.count)
     spent-life = decodes c₁ m.session.state known counter-held (state-stays prims map F m r live space)
       where
         known : m.session.state ≤ 20
         known = unfold life_cycle_in in (decoded-says t _ _ _ _ live).2
 
-    module _ (target : ℕ) {token : Token} (a : table_entry m.session.state target ≡ Allowed token) where
+    module _ (target : ℕ) {token : Token} (a : table_entry m.session.state target ≡ Some token) where
       abbrev ws : List ℕ
       ws = state_words t target
 
@@ -156,5 +154,5 @@ module _ (prims : Primitives) (map : Map) (F : fit map ≡ true) where
           let inside : state_at map + length ws ≤ length c₁ = rw state-length (omega (arith, life-inside, same)) in
           rw state-length at (program-takes life_cycle_rule c₁ ws (state_at map) inside (move-fits prims map F m r live space target a))
 
-      pub moved-life : life_cycle_in map (with_cells c₂ m.lent) ≡ Valid target (suc m.session.count)
+      pub moved-life : life_cycle_in map (with_cells c₂ m.lent) ≡ valid_life target (suc m.session.count)
       moved-life = decodes c₂ target (allowed-ends m.session.state target a).within counter-still state-held

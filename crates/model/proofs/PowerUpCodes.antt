@@ -26,7 +26,6 @@ use Rattle.partitions.proofs.KindRights.{scrambled-not-lockable}
 use Rattle.partitions.proofs.Map.{inside, direct-known}
 use Rattle.partitions.proofs.Granules.{granule-scrambled, size-words}
 use Rattle.life_cycle.specs.declared.LifeCycle.{LifeCycle}
-use Rattle.life_cycle.specs.declared.LifeCycle.TheVariants.{Valid, Invalid}
 use Rattle.life_cycle.proofs.Decoding.{decoded-says, decoded-valid}
 use Rattle.model.specs.declared.Command.TheVariants.{PowerUp}
 use Rattle.model.specs.Answers.{code_of}
@@ -37,7 +36,7 @@ use Rattle.model.specs.Commands.{granule, stored_digest, data_words, computed_di
 use Rattle.model.specs.PowerUp.{digest_holds, first_failing, verdict_of, life_cycle_in, copy_word, end_of, life_cycle_end, power_up_end, powered_answer}
 use Rattle.model.specs.PowerUp.{powered_session, PowerUpEnd, succeeds, digests, sensed_digest}
 use Rattle.model.specs.Step.{power_up, machine_after, answer_to, step, unchanged, act, performed, Step}
-use Rattle.model.specs.Claims.Terms.{ValidInputs, Digested, Says, not_power_up}
+use Rattle.model.specs.Claims.Terms.{ValidInputs, Digested, Says, not_power_up, valid_life}
 use Rattle.model.specs.Claims.Numbers.{KeyAt, eight_from, digest_in, digest_of}
 use Rattle.model.specs.Claims.PowerUps.{Fails, FirstFails, Encodes, Latched}
 use Rattle.model.proofs.KindNames.{Keyed, keyed-scrambled, hardware-kind, kind-hardware, lockable-kind, scrambled-keyed, key-is}
@@ -107,14 +106,14 @@ module _ (prims : Primitives) (map : Map) (l : Lent) where
 
   -- ---- what the life cycle words encode
 
-  encoded : (state count : ℕ) → life_cycle_in map l ≡ Valid state count → Encodes prims map l state count
+  encoded : (state count : ℕ) → life_cycle_in map l ≡ valid_life state count → Encodes prims map l state count
   unfolding life_cycle_in counter_at state_at
   encoded state count e =
       let d = decoded-says l.constants _ _ state count e in
       record { counter = d.0; states = d.1; state_known = d.2; count_known = d.3; raw = d.4 }
 
 module _ (prims : Primitives) (map : Map) (m : Machine) (r : ValidInputs map m) where
-  decodes : (state count : ℕ) → Encodes prims map m.lent state count → life_cycle_in map m.lent ≡ Valid state count
+  decodes : (state count : ℕ) → Encodes prims map m.lent state count → life_cycle_in map m.lent ≡ valid_life state count
   unfolding life_cycle_in counter_at state_at
   decodes state count e =
       rw (e.counter, e.states)
@@ -122,12 +121,12 @@ module _ (prims : Primitives) (map : Map) (m : Machine) (r : ValidInputs map m) 
 
   -- ---- the answers
 
-  six-verdict : (v : Option ℕ) (life : LifeCycle) (n : ℕ) → Says 0x06 n (powered_answer (end_of v life)) → v ≡ Some n
+  six-verdict : (v : Option ℕ) (life : Option LifeCycle) (n : ℕ) → Says 0x06 n (powered_answer (end_of v life)) → v ≡ Some n
   unfolding powered_answer end_of life_cycle_end
   six-verdict (Some number) life n = λ e. ap Some e.1
-  six-verdict None Invalid n = λ e. absurd (omega (arith, e.0))
-  six-verdict None (Valid state count) n =
-      if-both (λ w. Says 0x06 n (powered_answer w) → None ≡ Some n) (eqb state 20) _ _ (λ t e. absurd (omega (arith, e.0)))
+  six-verdict None None n = λ e. absurd (omega (arith, e.0))
+  six-verdict None (Some life) n =
+      if-both (λ w. Says 0x06 n (powered_answer w) → None ≡ Some n) (eqb life.state 20) _ _ (λ t e. absurd (omega (arith, e.0)))
       (λ t e. absurd (omega (arith, e.0)))
 
   pub power-up-sixes : (n : ℕ) → Says 0x06 n (answer_to prims map PowerUp m) ↔ FirstFails prims map m.lent n
@@ -178,7 +177,7 @@ module _ (prims : Primitives) (map : Map) (m : Machine) (r : ValidInputs map m) 
         Says 0x00 (256 * count + state) (answer_to prims map PowerUp m) × (s.phase ≡ phase.Ready) × (s.state ≡ state) × (s.count ≡ count)
     unfolding life_cycle_end powered_session when◌then◌else◌
     power-up-done state count n e =
-        let same = ap (λ (l : LifeCycle). powered_session map (life_cycle_end l) m.lent) (decodes state count e) in
+        let same = ap (λ (l : Option LifeCycle). powered_session map (life_cycle_end l) m.lent) (decodes state count e) in
         let succeeded : (machine_after prims map PowerUp m).session ≡ powered_session map (succeeds state count) m.lent
         = life-session ∙ same ∙ ap (λ (w : PowerUpEnd). powered_session map w m.lent) (if-false _ _ (ne_eqb state 20 n)) in (
           done-says state count n e,
@@ -194,10 +193,10 @@ module _ (prims : Primitives) (map : Map) (m : Machine) (r : ValidInputs map m) 
         (λ t. (let s = power-up-scrap count (rw (eqb-true state 20 t) at e) in omega (arith, s.1, q.1, e.count_known)))
         (λ t. (let s = done-says state count (eqb-false state 20 t) e in omega (arith, s.0, q.0)))
 
-    invalid-says : (life : LifeCycle) → ((state count : ℕ) → life ≡ Valid state count → ⊥) → Says 0x07 0xFFFF (powered_answer (life_cycle_end life))
+    invalid-says : (life : Option LifeCycle) → ((state count : ℕ) → life ≡ valid_life state count → ⊥) → Says 0x07 0xFFFF (powered_answer (life_cycle_end life))
     unfolding life_cycle_end powered_answer
-    invalid-says Invalid n = (refl, refl)
-    invalid-says (Valid state count) n = absurd (n state count refl)
+    invalid-says None n = (refl, refl)
+    invalid-says (Some life) n = absurd (n life.state life.count refl)
 
     pub power-up-invalid : Says 0x07 0xFFFF (answer_to prims map PowerUp m) ↔ ((state count : ℕ) → Encodes prims map m.lent state count → ⊥)
     power-up-invalid = (

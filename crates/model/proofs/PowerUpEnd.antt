@@ -3,14 +3,13 @@ use Rattle.std.specs.Prelude.{Ok, Err, Option, None, Some}
 use Prim.Native.Nat.{ℕ}
 use Rattle.basics.proofs.Choice.{if-both}
 use Rattle.life_cycle.specs.declared.LifeCycle.{LifeCycle}
-use Rattle.life_cycle.specs.declared.LifeCycle.TheVariants.{Valid, Invalid}
 use Rattle.model.specs.declared.Failure.TheVariants.{DigestFailed, LifeCycleFailed}
 use Rattle.model.specs.Answers.{Answer}
 use Rattle.model.specs.PowerUp.{PowerUpEnd, life_cycle_end, end_of, powered_answer}
 
-pub powered-answer : (Q : Answer → Type 0) (v : Option ℕ) (life : LifeCycle) → ((value : ℕ) → Q (Ok value)) → ((number : ℕ) → Q (Err (DigestFailed number)))
+pub powered-answer : (Q : Answer → Type 0) (v : Option ℕ) (life : Option LifeCycle) → ((value : ℕ) → Q (Ok value)) → ((number : ℕ) → Q (Err (DigestFailed number)))
     → ((value : ℕ) → Q (Err (LifeCycleFailed value))) → Q (powered_answer (end_of v life))
 unfolding powered_answer end_of life_cycle_end
 powered-answer Q (Some number) life f g h = g number
-powered-answer Q None Invalid f g h = h 0xFFFF
-powered-answer Q None (Valid state count) f g h = if-both (λ (w : PowerUpEnd). Q (powered_answer w)) _ _ _ (λ e. h _) (λ e. f _)
+powered-answer Q None None f g h = h 0xFFFF
+powered-answer Q None (Some life) f g h = if-both (λ (w : PowerUpEnd). Q (powered_answer w)) _ _ _ (λ e. h _) (λ e. f _)

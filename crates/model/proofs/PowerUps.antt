@@ -11,7 +11,6 @@ use Rattle.basics.proofs.Choice.{by_cases, by-option}
 use Rattle.partitions.specs.Map.{Map, limit}
 use Rattle.constants.specs.Constants.{valid_constants}
 use Rattle.life_cycle.specs.declared.LifeCycle.{LifeCycle}
-use Rattle.life_cycle.specs.declared.LifeCycle.TheVariants.{Valid, Invalid}
 use Rattle.model.specs.declared.Phase.TheVariants.{Dead}
 use Rattle.model.specs.Answers.{code_of}
 use Rattle.model.specs.Session.{no_digests, no_locks}
@@ -119,11 +118,11 @@ module _ (prims : Primitives) (map : Map) where
         count = 0;
       })
 
-  powered-failed : (v : Option ℕ) (life : LifeCycle) (l : Lent) → Failed (end_of v life) l
+  powered-failed : (v : Option ℕ) (life : Option LifeCycle) (l : Lent) → Failed (end_of v life) l
   unfolding end_of life_cycle_end powered_answer powered_copy powered_session when◌then◌else◌
   powered-failed (Some number) life l = λ n. (refl, refl)
-  powered-failed None Invalid l = λ n. (refl, refl)
-  powered-failed None (Valid state count) l = by_cases (eqb state 20) (λ t. rw t (λ n. (refl, refl))) (λ t. rw t (λ n. absurd (n refl)))
+  powered-failed None None l = λ n. (refl, refl)
+  powered-failed None (Some life) l = by_cases (eqb life.state 20) (λ t. rw t (λ n. (refl, refl))) (λ t. rw t (λ n. absurd (n refl)))
 
   pub failed : (m : Machine) → ValidInputs map m
       → let code = code_of (answer_to prims map PowerUp m) in

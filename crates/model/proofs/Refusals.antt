@@ -75,7 +75,7 @@ module _ (prims : Primitives) (map : Map) (m : Machine) where
 -- ---- power-up
 
 module _ (prims : Primitives) (map : Map) where
-  powered-code : (v : Option ℕ) (life : LifeCycle) → judgement_code (code_of (powered_answer (end_of v life))) ≡ false
+  powered-code : (v : Option ℕ) (life : Option LifeCycle) → judgement_code (code_of (powered_answer (end_of v life))) ≡ false
   powered-code v life = powered-answer (λ (answer : Answer). judgement_code (code_of answer) ≡ false) v life (λ value. refl) (λ number. refl) (λ value. refl)
 
   pub power-ups-refuse : (m : Machine)

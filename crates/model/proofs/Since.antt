@@ -15,7 +15,6 @@ use Rattle.partitions.specs.Map.{Map, partition, limit, number_of_kind}
 use Rattle.partitions.specs.Fitness.{fit}
 use Rattle.partitions.proofs.Map.{only, life-cycle-last}
 use Rattle.life_cycle.specs.declared.LifeCycle.{LifeCycle}
-use Rattle.life_cycle.specs.declared.LifeCycle.TheVariants.{Valid, Invalid}
 use Rattle.model.specs.declared.Failure.TheVariants.{LifeCycleFailed}
 use Rattle.model.specs.declared.Command.{Command}
 use Rattle.model.specs.declared.Command.TheVariants.{Transition, PowerUp}
@@ -26,7 +25,7 @@ use Rattle.model.specs.Commands.{stored_digest, class_of, access}
 use Rattle.model.specs.PowerUp.{PowerUpEnd, fails, succeeds, digests, verdict_of, life_cycle_in, copy_word, power_up_end, end_of, life_cycle_end, powered_copy}
 use Rattle.model.specs.PowerUp.{powered_session, powered_answer}
 use Rattle.model.specs.Step.{performed, act, power_up, after, machine_after, answer_to}
-use Rattle.model.specs.Claims.Terms.{ValidInputs, Digested, SamePartition, not_power_up, NoPowerUp, stays_ready, Lasts}
+use Rattle.model.specs.Claims.Terms.{ValidInputs, Digested, SamePartition, not_power_up, NoPowerUp, stays_ready, Lasts, valid_life}
 use Rattle.model.specs.Claims.Refusals.{early}
 use Rattle.model.specs.Claims.Sensing.{Since}
 use Rattle.model.proofs.Acts.{perform-frame, perform-gives}
@@ -45,20 +44,20 @@ use Rattle.model.specs.declared.Reason.TheVariants as reason
 module _ (prims : Primitives) (map : Map) (F : fit map ≡ true) where
   -- ---- a power-up that leaves the phase Ready
 
-  record Succeeded (v : Option ℕ) (life : LifeCycle) (w : PowerUpEnd) (l : Lent) : Type 0 where
+  record Succeeded (v : Option ℕ) (life : Option LifeCycle) (w : PowerUpEnd) (l : Lent) : Type 0 where
     checked : v ≡ None
-    decodes : life ≡ Valid (powered_session map w l).state (powered_session map w l).count
+    decodes : life ≡ valid_life (powered_session map w l).state (powered_session map w l).count
     not_scrap : (powered_session map w l).state ≡ 20 → ⊥
     copy : powered_copy prims map w l ≡ listed (copy_word prims map l.constants l.cells) 0 (limit map / 2)
     sensed : (powered_session map w l).sensed ≡ digests l.cells map
 
-  succeeded : (v : Option ℕ) (life : LifeCycle) (l : Lent) → is_ready (powered_session map (end_of v life) l).phase ≡ true → Succeeded v life (end_of v life) l
+  succeeded : (v : Option ℕ) (life : Option LifeCycle) (l : Lent) → is_ready (powered_session map (end_of v life) l).phase ≡ true → Succeeded v life (end_of v life) l
   unfolding end_of life_cycle_end powered_session powered_copy is_ready
   succeeded (Some number) life l = λ e. absurd (true-not-false e refl)
-  succeeded None Invalid l = λ e. absurd (true-not-false e refl)
-  succeeded None (Valid state count) l =
-      if-both (λ (w : PowerUpEnd). is_ready (powered_session map w l).phase ≡ true → Succeeded None (Valid state count) w l)
-      (eqb state 20) (fails reason.LifeCycleFailed (LifeCycleFailed (256 * count + state))) (succeeds state count) (λ t e. absurd (true-not-false e refl))
+  succeeded None None l = λ e. absurd (true-not-false e refl)
+  succeeded None (Some life) l =
+      if-both (λ (w : PowerUpEnd). is_ready (powered_session map w l).phase ≡ true → Succeeded None (Some life) w l)
+      (eqb life.state 20) (fails reason.LifeCycleFailed (LifeCycleFailed (256 * life.count + life.state))) (succeeds life.state life.count) (λ t e. absurd (true-not-false e refl))
       (λ t e. record { checked = refl; decodes = refl; not_scrap = eqb-false _ _ t; copy = refl; sensed = refl })
 
   -- the invariant: while the phase is Ready
@@ -195,14 +194,14 @@ module _ (prims : Primitives) (map : Map) (F : fit map ≡ true) where
   -- ---- while Ready lasts
 
   -- a power-up that answers 0 leaves the phase Ready
-  life-succeeds : (life : LifeCycle) (Q : PowerUpEnd → Type 0) → ((state count : ℕ) → Q (succeeds state count))
+  life-succeeds : (life : Option LifeCycle) (Q : PowerUpEnd → Type 0) → ((state count : ℕ) → Q (succeeds state count))
       → code_of (powered_answer (life_cycle_end life)) ≡ 0x00 → Q (life_cycle_end life)
   unfolding life_cycle_end powered_answer
-  life-succeeds Invalid Q h = λ e. absurd (omega arith)
-  life-succeeds (Valid state count) Q h =
-      if-both (λ (w : PowerUpEnd). code_of (powered_answer w) ≡ 0x00 → Q w) _ _ _ (λ t e. absurd (omega arith)) (λ t e. h state count)
+  life-succeeds None Q h = λ e. absurd (omega arith)
+  life-succeeds (Some life) Q h =
+      if-both (λ (w : PowerUpEnd). code_of (powered_answer w) ≡ 0x00 → Q w) _ _ _ (λ t e. absurd (omega arith)) (λ t e. h life.state life.count)
 
-  end-succeeds : (verdict : Option ℕ) (life : LifeCycle) (Q : PowerUpEnd → Type 0) → ((state count : ℕ) → Q (succeeds state count))
+  end-succeeds : (verdict : Option ℕ) (life : Option LifeCycle) (Q : PowerUpEnd → Type 0) → ((state count : ℕ) → Q (succeeds state count))
       → code_of (powered_answer (end_of verdict life)) ≡ 0x00 → Q (end_of verdict life)
   unfolding end_of powered_answer
   end-succeeds (Some number) life Q h = λ e. absurd (omega arith)

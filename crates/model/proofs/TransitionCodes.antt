@@ -1,6 +1,6 @@
 -- When a transition gives each code. The idea: where the words are taken, the table's entry and the token decide the code (`due`); each end has that code, or a
 -- 4.
-use Rattle.std.specs.Prelude.{Ok, Err}
+use Rattle.std.specs.Prelude.{Ok, Err, Option, Some, None}
 use Rattle.basics.specs.Choice.{when◌then◌else◌}
 use Rattle.model.specs.Claims.Terms.{ValidInputs, Says}
 use mathlib.Core.Path.{◌≡◌, refl, sym, ap, ◌∙◌}
@@ -18,8 +18,6 @@ use Rattle.partitions.specs.declared.Kind.{Kind}
 use Rattle.partitions.specs.Map.{partition, Map, number_of_kind}
 use Rattle.life_cycle.specs.declared.Token.{Token}
 use Rattle.life_cycle.specs.declared.Token.TheVariants.{Nothing, RawUnlock, TestUnlock, TestExit, Rma}
-use Rattle.life_cycle.specs.declared.Entry.{Entry}
-use Rattle.life_cycle.specs.declared.Entry.TheVariants.{Allowed, Forbidden}
 use Rattle.life_cycle.specs.Words.{state_words}
 use Rattle.life_cycle.specs.Transitions.{table_entry}
 use Rattle.life_cycle.proofs.Encoding.{counter-length}
@@ -59,14 +57,14 @@ module _ (prims : Primitives) (map : Map) (m : Machine) (target given : ℕ) whe
   token_code TestExit = stored_code kind.Secret0 8
   token_code Rma = stored_code kind.Secret2 0
 
-  entry_code : Entry → ℕ
-  entry_code Forbidden = 0x21
-  entry_code (Allowed token) = token_code token
+  entry_code : Option Token → ℕ
+  entry_code None = 0x21
+  entry_code (Some token) = token_code token
 
   abbrev due : ℕ
   due = entry_code (table_entry m.session.state target)
 
-  forbidden-due : table_entry m.session.state target ≡ Forbidden → due ≡ 0x21
+  forbidden-due : table_entry m.session.state target ≡ None → due ≡ 0x21
   unfolding entry_code
   forbidden-due e = rw e
 
@@ -124,7 +122,7 @@ module _ (prims : Primitives) (map : Map) (m : Machine) (target given : ℕ) whe
 
   -- what led to it
   record Causes (code : ℕ) : Type 0 where
-    no-entry : code ≡ 0x21 → table_entry m.session.state target ≡ Forbidden
+    no-entry : code ≡ 0x21 → table_entry m.session.state target ≡ None
     no-lock : code ≡ 0x22 → Unlocked prims map m target
     other : code ≡ 0x23 → Asked prims map m target given false
     same : code ≡ 0x00 → Asked prims map m target given true
@@ -224,7 +222,7 @@ module _ (prims : Primitives) (map : Map) (m : Machine) (target given : ℕ) whe
       × (target ≤ 20 → m.session.count < 24
       → ((code ≡ 0x04) ↔ Stops prims map m target given)
       × ((code ≡ 0x04 → ⊥)
-      → ((code ≡ 0x21) ↔ (table_entry m.session.state target ≡ Forbidden))
+      → ((code ≡ 0x21) ↔ (table_entry m.session.state target ≡ None))
       × ((code ≡ 0x22) ↔ Unlocked prims map m target)
       × ((code ≡ 0x23) ↔ Asked prims map m target given false)
       × ((code ≡ 0x00) ↔ Asked prims map m target given true)))

@@ -1,6 +1,6 @@
 -- The ends of a transition. The idea: past the early refusals it has eight ends, each with what led to it and the cells that it leaves; whatever is claimed of
 -- its answers is read off the list of ends.
-use Rattle.std.specs.Prelude.{Ok, Err}
+use Rattle.std.specs.Prelude.{Ok, Err, Option, Some, None}
 use mathlib.Core.Path.{◌≡◌, refl, sym}
 use mathlib.Core.Bool.{Bool, true, false, not}
 use mathlib.Core.List.{List}
@@ -14,8 +14,6 @@ use Rattle.words.specs.Programming.{program_answer, program_cells}
 use Rattle.partitions.specs.Map.{Map, number_of_kind}
 use Rattle.life_cycle.specs.declared.Token.{Token}
 use Rattle.life_cycle.specs.declared.Token.TheVariants.{Nothing, RawUnlock, TestUnlock, TestExit, Rma}
-use Rattle.life_cycle.specs.declared.Entry.{Entry}
-use Rattle.life_cycle.specs.declared.Entry.TheVariants.{Allowed, Forbidden}
 use Rattle.life_cycle.specs.Words.{state_words}
 use Rattle.constants.specs.Constants.{raw_unlock_hash}
 use Rattle.life_cycle.specs.Transitions.{table_entry}
@@ -75,7 +73,7 @@ module _ (prims : Primitives) (map : Map) (m : Machine) (target given : ℕ) whe
     used : target ≤ 20 → 24 ≤ m.session.count → answer ≡ Err StrokesUsed → cells ≡ cells₀ → Ending answer cells
     counter_stops : {cell : ℕ} → InRange → program_answer life_cycle_rule cells₀ (counter_at map) stroke ≡ Err cell → answer ≡ Err (NotBlank cell)
         → cells ≡ cells₀ → Ending answer cells
-    not_in_table : Taken → table_entry m.session.state target ≡ Forbidden → answer ≡ Err NotInTable → cells ≡ stroke-cells → Ending answer cells
+    not_in_table : Taken → table_entry m.session.state target ≡ None → answer ≡ Err NotInTable → cells ≡ stroke-cells → Ending answer cells
     token_not_locked : Taken → Unlocked prims map m target → answer ≡ Err TokenNotLocked → cells ≡ stroke-cells → Ending answer cells
     token_differs : Taken → Asked prims map m target given false → answer ≡ Err TokenDiffers → cells ≡ stroke-cells → Ending answer cells
     state_stops : {cell : ℕ} → Taken → Asked prims map m target given true
@@ -97,14 +95,14 @@ module _ (prims : Primitives) (map : Map) (m : Machine) (target given : ℕ) whe
   abbrev Comes : Authorization → Type 0
   Comes a = Ends (perform (authorized_act prims map m a target) stroked)
 
-  compares : (token : Token) → table_entry m.session.state target ≡ Allowed token → (test : Lent → Bool)
+  compares : (token : Token) → table_entry m.session.state target ≡ Some token → (test : Lent → Bool)
       → ((same : Bool) → test stroked ≡ same → Compared prims map m given same token) → Taken → Comes (by_token test)
   unfolding authorized_act perform with_comparison
   compares token e test h t =
       if-both Ends (test stroked) _ _ (λ s. moves t (record { token = token; allowed = e; compared = h true s }))
       (λ s. token_differs t (record { token = token; allowed = e; compared = h false s }) refl refl)
 
-  locked : (token : Token) → table_entry m.session.state target ≡ Allowed token
+  locked : (token : Token) → table_entry m.session.state target ≡ Some token
       → (sensed_at m.session (number_of_kind map (token_kind token)) ≡ 0 → Unlocked prims map m target)
       → ((same : Bool) → Stored prims map m given same (token_kind token) (token_offset token) → Compared prims map m given same token) → Taken
       → Comes (locked_token prims map m.session token given)
@@ -113,14 +111,14 @@ module _ (prims : Primitives) (map : Map) (m : Machine) (target given : ℕ) whe
       if-both Comes _ _ _ (λ s. unfold authorized_act perform in (token_not_locked t (zero (eqb-true _ 0 (not-false _ (not-true _ s)))) refl refl))
       (λ s. compares token e _ (λ same q. h same (eqb-false _ 0 (not-true _ (not-false _ s)), agreed _ _ same q)) t)
 
-  asks : (entry : Entry) → table_entry m.session.state target ≡ entry → Taken → Comes (authorization prims map m.session entry given)
+  asks : (entry : Option Token) → table_entry m.session.state target ≡ entry → Taken → Comes (authorization prims map m.session entry given)
   unfolding authorization token_authorization token_kind token_offset hashes_to raw_unlock_hash
-  asks Forbidden e t = unfold authorized_act perform in (not_in_table t e refl refl)
-  asks (Allowed Nothing) e t = unfold authorized_act in (moves t (record { token = Nothing; allowed = e; compared = refl }))
-  asks (Allowed RawUnlock) e t = compares RawUnlock e _ (λ same s. agreed _ _ same s) t
-  asks (Allowed TestUnlock) e t = locked TestUnlock e (test_unlock e) (λ same s. s) t
-  asks (Allowed TestExit) e t = locked TestExit e (test_exit e) (λ same s. s) t
-  asks (Allowed Rma) e t = locked Rma e (rma e) (λ same s. s) t
+  asks None e t = unfold authorized_act perform in (not_in_table t e refl refl)
+  asks (Some Nothing) e t = unfold authorized_act in (moves t (record { token = Nothing; allowed = e; compared = refl }))
+  asks (Some RawUnlock) e t = compares RawUnlock e _ (λ same s. agreed _ _ same s) t
+  asks (Some TestUnlock) e t = locked TestUnlock e (test_unlock e) (λ same s. s) t
+  asks (Some TestExit) e t = locked TestExit e (test_exit e) (λ same s. s) t
+  asks (Some Rma) e t = locked Rma e (rma e) (λ same s. s) t
 
   -- the act from the stroke on
   abbrev pub spending : Act

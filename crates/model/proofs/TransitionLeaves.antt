@@ -9,7 +9,6 @@ use Rattle.basics.specs.Choice.{when◌then◌else◌}
 use Rattle.basics.proofs.Choice.{true-not-false, by_cases, not-passed}
 use Rattle.partitions.specs.Map.{Map}
 use Rattle.partitions.specs.Fitness.{fit}
-use Rattle.life_cycle.specs.declared.LifeCycle.TheVariants.{Valid}
 use Rattle.life_cycle.proofs.Decoding.{decoded-says}
 use Rattle.model.specs.declared.Command.{Command}
 use Rattle.model.specs.declared.Command.TheVariants.{Transition, PowerUp}
@@ -18,7 +17,7 @@ use Rattle.model.specs.Session.{is_ready}
 use Rattle.model.specs.Lent.{Machine, Primitives}
 use Rattle.model.specs.PowerUp.{verdict_of, life_cycle_in, power_up_end, end_of, life_cycle_end, powered_answer}
 use Rattle.model.specs.Step.{power_up, machine_after, answer_to}
-use Rattle.model.specs.Claims.Terms.{ValidInputs, Says}
+use Rattle.model.specs.Claims.Terms.{ValidInputs, Says, valid_life}
 use Rattle.model.specs.Claims.Refusals.{early}
 use Rattle.model.specs.Claims.Transitions.{stroke_only, Fair, Leaves}
 use Rattle.model.proofs.Steps.{step-up, step-inputs}
@@ -30,7 +29,7 @@ use Rattle.model.proofs.TransitionLife.{LifeAfter, kept, spent, went, transition
 
 module _ (prims : Primitives) (map : Map) (F : fit map ≡ true) where
   -- a power-up that no digest check fails answers what is decoded
-  pub up-says : (m : Machine) → ValidInputs map m → (state count : ℕ) → life_cycle_in map m.lent ≡ Valid state count → verdict_of prims map m.lent ≡ None
+  pub up-says : (m : Machine) → ValidInputs map m → (state count : ℕ) → life_cycle_in map m.lent ≡ valid_life state count → verdict_of prims map m.lent ≡ None
       → Says (when eqb state 20 then 0x07 else 0x00) (256 * count + state) (answer_to prims map PowerUp m)
   unfolding power_up power_up_end end_of life_cycle_end powered_answer when◌then◌else◌
   up-says m r state count e v = rw (step-up prims map m r, answer_to, v, e) (by_cases (eqb state 20) (λ t. rw t (refl, refl)) (λ t. rw t (refl, refl)))
@@ -48,7 +47,7 @@ module _ (prims : Primitives) (map : Map) (F : fit map ≡ true) where
     stopped : early code ≡ false → is_ready m₁.session.phase ≡ false
     stopped e = ap (λ s. is_ready s.phase) ((transitions-refuse prims map m target given).1 e).1 ∙ later-phase code
 
-    leave : (state count : ℕ) → early code ≡ false → life_cycle_in map m₁.lent ≡ Valid state count → Leaves prims map state count m₁
+    leave : (state count : ℕ) → early code ≡ false → life_cycle_in map m₁.lent ≡ valid_life state count → Leaves prims map state count m₁
     leave state count e d = record {
       decodes = d;
       answered = λ l u. rw (after-not-ready prims map l m₁ u (stopped e)) (up-says m₁ (step-inputs prims map x m h.held.right) state count d);

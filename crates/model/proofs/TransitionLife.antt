@@ -1,5 +1,6 @@
 -- What a transition makes of the life cycle, where the words decode to the record's state and count while Ready. The idea: the words of the stroke and of an
 -- allowed state are then taken, so that of the eight ends the two that stop with a 4 are out, and the others have their words.
+use Rattle.std.specs.Prelude.{Option, Some}
 use mathlib.Core.Path.{◌≡◌, refl, sym, ap, ◌∙◌}
 use mathlib.Core.Bool.{true, false}
 use mathlib.Core.List.{List}
@@ -12,9 +13,7 @@ use Rattle.words.proofs.Programming.{refused-not-done}
 use Rattle.partitions.specs.Map.{Map}
 use Rattle.partitions.specs.Fitness.{fit}
 use Rattle.life_cycle.specs.declared.LifeCycle.{LifeCycle}
-use Rattle.life_cycle.specs.declared.LifeCycle.TheVariants.{Valid}
 use Rattle.life_cycle.specs.declared.Token.{Token}
-use Rattle.life_cycle.specs.declared.Entry.TheVariants.{Allowed}
 use Rattle.life_cycle.specs.Transitions.{table_entry}
 use Rattle.model.specs.declared.Command.{Command}
 use Rattle.model.specs.declared.Command.TheVariants.{Transition}
@@ -23,7 +22,7 @@ use Rattle.model.specs.Session.{is_ready}
 use Rattle.model.specs.Lent.{Machine, Primitives, with_cells}
 use Rattle.model.specs.PowerUp.{life_cycle_in}
 use Rattle.model.specs.Step.{machine_after, answer_to}
-use Rattle.model.specs.Claims.Terms.{ValidInputs}
+use Rattle.model.specs.Claims.Terms.{ValidInputs, valid_life}
 use Rattle.model.specs.Claims.Refusals.{early}
 use Rattle.model.specs.Claims.Transitions.{stroke_only}
 use Rattle.model.proofs.Steps.{step-constants}
@@ -34,11 +33,11 @@ use Rattle.model.proofs.LifeCycleWords.{Recorded, stroke-fits, move-fits, life-o
 
 -- what the life cycle words decode to after a transition, by its code: what they did before; the record's state and one stroke more; or the target and one
 -- stroke more
-pub data LifeAfter (prims : Primitives) (map : Map) (m : Machine) (target code : ℕ) (life : LifeCycle) : Type 0 where
+pub data LifeAfter (prims : Primitives) (map : Map) (m : Machine) (target code : ℕ) (life : Option LifeCycle) : Type 0 where
   kept : stroke_only code ≡ false → (code ≡ 0x00 → ⊥) → (code ≡ 0x04 → ⊥) → life ≡ life_cycle_in map m.lent → LifeAfter prims map m target code life
-  spent : stroke_only code ≡ true → Recorded prims map m → life ≡ Valid m.session.state (suc m.session.count) → LifeAfter prims map m target code life
-  went : {token : Token} → code ≡ 0x00 → Recorded prims map m → table_entry m.session.state target ≡ Allowed token
-      → life ≡ Valid target (suc m.session.count)
+  spent : stroke_only code ≡ true → Recorded prims map m → life ≡ valid_life m.session.state (suc m.session.count) → LifeAfter prims map m target code life
+  went : {token : Token} → code ≡ 0x00 → Recorded prims map m → table_entry m.session.state target ≡ Some token
+      → life ≡ valid_life target (suc m.session.count)
       → LifeAfter prims map m target code life
 
 -- no code after a stroke is 4
@@ -47,7 +46,7 @@ unfolding stroke_only
 stroke-not-four code e q = true-not-false e (rw q)
 
 -- so 4 is never given
-pub life-not-four : {prims : Primitives} {map : Map} {m : Machine} {target code : ℕ} {life : LifeCycle} → LifeAfter prims map m target code life → code ≡ 0x04
+pub life-not-four : {prims : Primitives} {map : Map} {m : Machine} {target code : ℕ} {life : Option LifeCycle} → LifeAfter prims map m target code life → code ≡ 0x04
     → ⊥
 life-not-four (kept s z f e) = f
 life-not-four (spent s v e) = stroke-not-four _ s

@@ -1,14 +1,12 @@
 -- What holds of a transition whose stroke is spent. The idea: its acts end in a moved state or in three refusals, behind comparisons; so a few cases serve
 -- every property of an act, and with it every property of an answer and its effect.
-use Rattle.std.specs.Prelude.{Ok, Err}
+use Rattle.std.specs.Prelude.{Ok, Err, Option, Some, None}
 use mathlib.Core.Bool.{Bool}
 use Prim.Native.Nat.{ℕ}
 use Rattle.basics.proofs.Choice.{if-both}
 use Rattle.partitions.specs.Map.{Map}
 use Rattle.life_cycle.specs.declared.Token.{Token}
 use Rattle.life_cycle.specs.declared.Token.TheVariants.{Nothing, RawUnlock, TestUnlock, TestExit, Rma}
-use Rattle.life_cycle.specs.declared.Entry.{Entry}
-use Rattle.life_cycle.specs.declared.Entry.TheVariants.{Allowed, Forbidden}
 use Rattle.model.specs.declared.Failure.TheVariants.{NotBlank, NotInTable, TokenNotLocked, TokenDiffers}
 use Rattle.model.specs.Answers.{Answer}
 use Rattle.model.specs.Lent.{Lent, Machine, Primitives}
@@ -41,10 +39,10 @@ module _ (prims : Primitives) (map : Map) (m : Machine) (target : ℕ) where
     token-all TestExit given = locked-all TestExit given
     token-all Rma given = locked-all Rma given
 
-    pub entry-all : (entry : Entry) (given : ℕ) → Authorized (authorization prims map m.session entry given)
+    pub entry-all : (entry : Option Token) (given : ℕ) → Authorized (authorization prims map m.session entry given)
     unfolding authorization authorized_act
-    entry-all Forbidden given = end_cases.forbidden
-    entry-all (Allowed token) given = token-all token given
+    entry-all None given = end_cases.forbidden
+    entry-all (Some token) given = token-all token given
 
 -- the five answers, each with its effect, have the property
 pub record Ends (T : Answer → Effect → Type 0) : Type 0 where
@@ -54,7 +52,7 @@ pub record Ends (T : Answer → Effect → Type 0) : Type 0 where
   pub token_unlocked : T (Err TokenNotLocked) to_inert
   pub differs : T (Err TokenDiffers) to_inert
 
-pub entry_gives : {T : Answer → Effect → Type 0} → Ends T → (prims : Primitives) (map : Map) (m : Machine) (entry : Entry) (target given : ℕ)
+pub entry_gives : {T : Answer → Effect → Type 0} → Ends T → (prims : Primitives) (map : Map) (m : Machine) (entry : Option Token) (target given : ℕ)
     → Gives T (authorized_act prims map m (authorization prims map m.session entry given) target)
 unfolding move_act
 entry_gives {T} ends prims map m entry target given =

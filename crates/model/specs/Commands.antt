@@ -1,7 +1,7 @@
 -- The commands but power-up, each in the paper's order of refusals, over any primitives and map. What each may do is in the sentence above it. Addresses and
 -- numbers there are those of Map 1: "0x10, 0x06 and the address limit read from the map in use; where 01 or Two numbers or counts partitions, their kind
 -- decides." (request Six)
-use Rattle.std.specs.Prelude.{ℕ, suc, ◌+◌, ◌*◌, ◌-◌, ◌/◌, ◌^◌, Bool, not, ◌&&◌, ◌||◌, List, eqb, leb, ltb, Ok, Err}
+use Rattle.std.specs.Prelude.{ℕ, suc, ◌+◌, ◌*◌, ◌-◌, ◌/◌, ◌^◌, Bool, not, ◌&&◌, ◌||◌, List, eqb, leb, ltb, Ok, Err, Option, Some, None}
 use Rattle.basics.specs.Choice.{when◌then◌else◌}
 use Rattle.words.specs.declared.Rule.{Rule}
 use Rattle.words.specs.declared.Rule.TheVariants.{KeepBits, BlankOnly}
@@ -12,8 +12,6 @@ use Rattle.partitions.specs.declared.Partition.{Partition}
 use Rattle.partitions.specs.Map.{Map, rights_of, number_at, partition, partition_at, limit, in_digest, first_word, word_count, number_of_kind}
 use Rattle.life_cycle.specs.declared.Token.{Token}
 use Rattle.life_cycle.specs.declared.Token.TheVariants.{Nothing, RawUnlock, TestUnlock, TestExit, Rma}
-use Rattle.life_cycle.specs.declared.Entry.{Entry}
-use Rattle.life_cycle.specs.declared.Entry.TheVariants.{Allowed, Forbidden}
 use Rattle.life_cycle.specs.Words.{counter_words, state_words}
 use Rattle.life_cycle.specs.Transitions.{table_entry}
 use Rattle.model.specs.declared.Session.{Session}
@@ -144,9 +142,9 @@ module _ (prims : Primitives) (map : Map) (s : Session) where
   token_authorization Rma given = locked_token Rma given
 
   -- "then 0x21": the transition is not in the table
-  unfoldable pub authorization : Entry → ℕ → Authorization
-  authorization Forbidden given = refused NotInTable
-  authorization (Allowed token) given = token_authorization token given
+  unfoldable pub authorization : Option Token → ℕ → Authorization
+  authorization None given = refused NotInTable
+  authorization (Some token) given = token_authorization token given
 
 module _ (prims : Primitives) (map : Map) (m : Machine) where
   abbrev session : Session

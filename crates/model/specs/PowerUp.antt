@@ -6,7 +6,6 @@ use Rattle.words.specs.Words.{words_of, part_at}
 use Rattle.partitions.specs.declared.Partition.{Partition}
 use Rattle.partitions.specs.Map.{Map, rights_of, partition, partition_at, limit, in_digest, first_word, word_count}
 use Rattle.life_cycle.specs.declared.LifeCycle.{LifeCycle}
-use Rattle.life_cycle.specs.declared.LifeCycle.TheVariants.{Valid, Invalid}
 use Rattle.life_cycle.specs.Words.{decoded}
 use Rattle.model.specs.declared.Reason.{Reason}
 use Rattle.model.specs.declared.Reason.TheVariants as reason
@@ -33,13 +32,13 @@ pub data PowerUpEnd : Type 0 where
   succeeds : ℕ → ℕ → PowerUpEnd
 
 -- "invalid or SCRAP gives 7 and Dead 7 .. value for SCRAP as below, for invalid 0xFFFF"; SCRAP is state 20
-unfoldable pub life_cycle_end : LifeCycle → PowerUpEnd
-life_cycle_end Invalid = fails reason.LifeCycleFailed (LifeCycleFailed 0xFFFF)
-life_cycle_end (Valid state count) =
-    when eqb state 20 then fails reason.LifeCycleFailed (LifeCycleFailed (256 * count + state)) else succeeds state count
+unfoldable pub life_cycle_end : Option LifeCycle → PowerUpEnd
+life_cycle_end None = fails reason.LifeCycleFailed (LifeCycleFailed 0xFFFF)
+life_cycle_end (Some life) =
+    when eqb life.state 20 then fails reason.LifeCycleFailed (LifeCycleFailed (256 * life.count + life.state)) else succeeds life.state life.count
 
 -- "the first that differs gives 6 and Dead 6. Then .."
-unfoldable pub end_of : Option ℕ → LifeCycle → PowerUpEnd
+unfoldable pub end_of : Option ℕ → Option LifeCycle → PowerUpEnd
 end_of (Some number) life = fails reason.DigestFailed (DigestFailed number)
 end_of None life = life_cycle_end life
 
@@ -50,7 +49,7 @@ module _ (prims : Primitives) where
       not (rights_of p.kind).hardware || eqb (stored_digest p cells) 0 || eqb (stored_digest p cells) (computed_digest prims constants p cells)
 
 -- "Then state and count are decoded"
-unfoldable pub life_cycle_in : Map → Lent → LifeCycle
+unfoldable pub life_cycle_in : Map → Lent → Option LifeCycle
 life_cycle_in map l = decoded l.constants (part_at l.cells (counter_at map) 24) (part_at l.cells (state_at map) 20)
 
 -- "A 6 or 7 here sets .. sensed digests, state and count to zero" "Success: Ready; sensed digests of 0 to 5 are the stored ones". Both clear the read

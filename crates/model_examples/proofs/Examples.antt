@@ -20,14 +20,13 @@ use Rattle.model.specs.declared.Failure.TheVariants.{NotBlank, Denied}
 use Rattle.model.specs.declared.Command.{Command}
 use Rattle.model.specs.declared.Command.TheVariants.{Read, Write, FrontRead, Digest, ReadLock, Transition, PowerUp}
 use Rattle.model.specs.Lent.{Machine}
-use Rattle.life_cycle.specs.declared.LifeCycle.TheVariants.{Valid}
 use Rattle.words.specs.declared.Rule.TheVariants.{KeepBits}
 use Rattle.model.specs.Commands.{direct_rule, granule, stored_digest}
 use Rattle.model.specs.PowerUp.{life_cycle_in}
 use Rattle.model.specs.Step.{after, answers, machine_after, answer_to}
 use Rattle.model.specs.CaseTables.{number}
 use Rattle.model.specs.Cases.{blank, table, Hold, blank_digest}
-use Rattle.model.specs.Claims.Terms.{ValidInputs, Cipher, DigestFits, Digested, stored_words, Lasts, NotWritten, used_value, Allowed, Matched}
+use Rattle.model.specs.Claims.Terms.{ValidInputs, Cipher, DigestFits, Digested, stored_words, Lasts, NotWritten, used_value, Allowed, Matched, valid_life}
 use Rattle.model.specs.Claims.Terms.{HiddenWord, Alike}
 use Rattle.model.specs.Claims.Terms.{Says}
 use Rattle.model.specs.Claims.Demand3.{Ready}
@@ -349,7 +348,7 @@ front-read = refl
 
 -- ---- a progress: RAW to TEST_UNLOCKED0 spends a stroke and takes an entry of the table
 
-progress-taken : life_cycle_in map1 (after toy map1 (PowerUp ∷ Transition 1 7 ∷ []) (off blank)).lent ≡ Valid 1 1
+progress-taken : life_cycle_in map1 (after toy map1 (PowerUp ∷ Transition 1 7 ∷ []) (off blank)).lent ≡ valid_life 1 1
 unfolding everything
 progress-taken = refl
 

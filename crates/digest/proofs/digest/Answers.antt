@@ -1,27 +1,28 @@
--- The invariant: the words before `at` are absorbed, so what is left to absorb from the state are the words from `at` on.
-use mathlib.Core.Path.{sym, ap, ap₂, ◌∙◌}
-use mathlib.Core.List.{List}
-use Prim.Native.Nat.{ℕ, ◌+◌, ◌*◌, ◌^◌}
-use native.Mathlib.Omega.{arith}
-use lib.ListN.{drop}
-use Rattle.words.proofs.Parts.{rest-slice}
+-- The invariant: the chunks so far are absorbed, so what is left to absorb from the state are the words that are left.
+use Rattle.std.proofs.Common.{ℕ, sym, ap, ◌∙◌}
 use Rattle.digest.specs.Digest.{absorb, absorb_all, blocks_of, digest_blocks, digest_words}
-use Rattle.digest.proofs.Chunks.{absorb-from}
+use Rattle.digest.proofs.Chunks.{absorb-next, absorb-none}
 use Rattle.digest.proofs.digest.Goals as goal
 
-pub loop-at-preserved : goal.loop-at-preserved
-loop-at-preserved c =
-    let ws = c.args.words.now in
-    let at = c.loop-at.at in
-    let s = c.loop-at.state in
-    let e = ap₂ (λ (x y : ℕ). absorb (x * 2 ^ 64 + y) s) c.block_at.ensures c.block_at-in-loop-at.ensures in
-    let state = ap (λ (x : ℕ). absorb_all x (blocks_of (drop (at + 8) ws))) (sym (c.absorbed-state.ensures ∙ e)) in
-    (omega arith, c.loop-at.invariant.1 ∙ absorb-from s ws at (omega arith) ∙ state)
+pub loop-chunk-init : goal.loop-chunk-init
+loop-chunk-init c =
+    let made = c.into_iter-chunk-iterator.ensures.into_iter_gives in
+    (rw made c.chunks-chunk-items.ensures.size, rw (made, c.chunks-chunk-items.ensures.rest))
+
+pub loop-chunk-preserved : goal.loop-chunk-preserved
+loop-chunk-preserved c =
+    let size = c.loop-chunk.invariant.0 in
+    let step = c.in-Some.ensures.steps in
+    let left = c.next.new.self.rest.now in
+    let state = c.absorbed-state.ensures ∙ ap (λ (k : ℕ). absorb k c.loop-chunk.state) c.eight_words.ensures in (
+      step.0 ∙ size,
+      c.loop-chunk.invariant.1
+          ∙ absorb-next c.loop-chunk.state _ _ _ step.1.0 (rw size at step.1.1) step.1.2
+          ∙ ap (λ (s : ℕ). absorb_all s (blocks_of left)) (sym state),
+    )
 
 pub returns : goal.returns
 unfolding digest_words digest_blocks
 returns c =
-    let ws = c.args.words.now in
-    let key = c.args.final_high * 2 ^ 64 + c.args.final_low in
-    let rest = ap (λ (w : List ℕ). absorb_all c.loop-at.state (blocks_of w)) (rest-slice ws c.loop-at.at) in
-    c.absorbed.ensures ∙ ap (absorb key) (c.absorbed_rest-last.ensures ∙ rest ∙ sym c.loop-at.invariant.1)
+    let left = c.in-None.ensures.steps.1.0 in
+    c.absorbed.ensures ∙ ap (absorb c.args.final_key) (sym (c.loop-chunk.invariant.1 ∙ absorb-none _ _ left))

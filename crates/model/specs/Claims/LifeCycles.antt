@@ -1,11 +1,9 @@
 -- The life cycle in the papers' numbers, each table entered a second time: transitions, state words and counter words; and what follows for tokens.
-use Rattle.std.specs.Prelude.{ℕ, ◌+◌, ◌*◌, ◌^◌, ◌≤◌, ◌<◌, ◌≡◌, true, List, [], ◌∷◌, ◌⊎◌, eqb, ltb, get_or, replicate}
+use Rattle.std.specs.Prelude.{ℕ, ◌+◌, ◌*◌, ◌^◌, ◌≤◌, ◌<◌, ◌≡◌, true, List, [], ◌∷◌, ◌⊎◌, eqb, ltb, get_or, replicate, Option, Some, None}
 use Rattle.basics.specs.Choice.{when◌then◌else◌}
 use Rattle.basics.specs.Digits.{bit}
 use Rattle.basics.specs.Range.{listed}
 use Rattle.partitions.specs.Map.{Map}
-use Rattle.life_cycle.specs.declared.Entry.{Entry}
-use Rattle.life_cycle.specs.declared.Entry.TheVariants.{Allowed, Forbidden}
 use Rattle.life_cycle.specs.Words.{counter_words, state_words}
 use Rattle.life_cycle.specs.Transitions.{table_entry}
 use Rattle.model.specs.declared.Command.TheVariants.{Transition}
@@ -14,28 +12,29 @@ use Rattle.model.specs.Lent.{Machine, Primitives}
 use Rattle.model.specs.Step.{answer_to}
 use Rattle.model.specs.Claims.Transitions.{Compared}
 use Rattle.life_cycle.specs.declared.Token.TheVariants as token
+use Rattle.life_cycle.specs.declared.Token.{Token}
 
 -- entries: not in the table, allowed with no token, and with each of the four
-abbrev o : Entry
-o = Forbidden
+abbrev o : Option Token
+o = None
 
-abbrev n : Entry
-n = Allowed token.Nothing
+abbrev n : Option Token
+n = Some token.Nothing
 
-abbrev w : Entry
-w = Allowed token.RawUnlock
+abbrev w : Option Token
+w = Some token.RawUnlock
 
-abbrev u : Entry
-u = Allowed token.TestUnlock
+abbrev u : Option Token
+u = Some token.TestUnlock
 
-abbrev e : Entry
-e = Allowed token.TestExit
+abbrev e : Option Token
+e = Some token.TestExit
 
-abbrev m : Entry
-m = Allowed token.Rma
+abbrev m : Option Token
+m = Some token.Rma
 
 -- a row for each state, RAW, TEST_UNLOCKED0, TEST_LOCKED0 .. TEST_UNLOCKED7, DEV, PROD, PROD_END, RMA, SCRAP, and in it an entry for each target
-abbrev pub rows : List (List Entry)
+abbrev pub rows : List (List (Option Token))
 rows =
     (o ∷ w ∷ o ∷ o ∷ o ∷ o ∷ o ∷ o ∷ o ∷ o ∷ o ∷ o ∷ o ∷ o ∷ o ∷ o ∷ o ∷ o ∷ o ∷ o ∷ n ∷ [])
     ∷ (o ∷ o ∷ n ∷ o ∷ n ∷ o ∷ n ∷ o ∷ n ∷ o ∷ n ∷ o ∷ n ∷ o ∷ n ∷ o ∷ e ∷ e ∷ e ∷ n ∷ n ∷ [])

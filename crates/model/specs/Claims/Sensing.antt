@@ -3,7 +3,6 @@ use Rattle.std.specs.Prelude.{ℕ, ◌/◌, ◌≡◌, true, false, List, [], �
 use Rattle.basics.specs.Choice.{when◌then◌else◌}
 use Rattle.basics.specs.Range.{listed}
 use Rattle.partitions.specs.Map.{Map, number_at, partition, partition_at, limit, number_of_kind}
-use Rattle.life_cycle.specs.declared.LifeCycle.TheVariants.{Valid}
 use Rattle.model.specs.declared.Phase.TheVariants.{Off, Dead}
 use Rattle.model.specs.declared.Command.{Command}
 use Rattle.model.specs.declared.Command.TheVariants.{FrontRead, ReadLock, PowerUp}
@@ -13,7 +12,7 @@ use Rattle.model.specs.Lent.{Machine, Primitives, with_copy}
 use Rattle.model.specs.Commands.{granule, stored_digest}
 use Rattle.model.specs.PowerUp.{digests, first_failing, life_cycle_in, copy_word}
 use Rattle.model.specs.Step.{after, machine_after, answer_to}
-use Rattle.model.specs.Claims.Terms.{ValidInputs, Digested, SamePartition, quiet, NoPowerUp}
+use Rattle.model.specs.Claims.Terms.{ValidInputs, Digested, SamePartition, quiet, NoPowerUp, valid_life}
 use Rattle.partitions.specs.declared.Kind.TheVariants as kind
 use Rattle.model.specs.declared.Reason.TheVariants as reason
 
@@ -33,7 +32,7 @@ module _ (prims : Primitives) (map : Map) where
     pub copy : m.lent.copy ≡ listed (copy_word prims map m.lent.constants c₀) 0 (limit map / 2)
     -- the life cycle words are those found then, and decode to the record's state, which is not SCRAP (20), and count
     pub unmoved : SamePartition map (number_of_kind map kind.LifeCycle) c₀ m.lent.cells
-    pub life : life_cycle_in map m.lent ≡ Valid m.session.state m.session.count
+    pub life : life_cycle_in map m.lent ≡ valid_life m.session.state m.session.count
     pub not_scrap : m.session.state ≡ 20 → ⊥
     -- a partition that was found locked is as it was then
     pub locked : (n : ℕ) → Digested map n → (stored_digest (partition map n) c₀ ≡ 0 → ⊥) → SamePartition map n c₀ m.lent.cells

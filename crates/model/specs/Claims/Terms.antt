@@ -1,9 +1,10 @@
 -- The terms that claims of several subjects are stated in (document 01, 'Where the promises have to bite').
-use Rattle.std.specs.Prelude.{ℕ, ◌+◌, ◌*◌, ◌^◌, ◌≤◌, ◌<◌, ◌≡◌, true, false, List, [], ◌∷◌, length, get_or, Ok}
+use Rattle.std.specs.Prelude.{ℕ, ◌+◌, ◌*◌, ◌^◌, ◌≤◌, ◌<◌, ◌≡◌, true, false, List, [], ◌∷◌, length, get_or, Ok, Option, Some}
 use Rattle.words.specs.declared.Rule.{Rule}
 use Rattle.words.specs.Words.{number_of, words_of, part_at}
 use Rattle.words.specs.Programming.{program_answer}
 use Rattle.partitions.specs.Map.{Map, rights_of, number_at, partition, partition_at, limit, in_digest, first_word, word_count}
+use Rattle.life_cycle.specs.declared.LifeCycle.{LifeCycle}
 use Rattle.constants.specs.Constants.{valid_constants}
 use Rattle.model.specs.declared.Command.{Command}
 use Rattle.model.specs.declared.Command.TheVariants.{Read, Write, FrontRead, Digest, ReadLock, Transition, PowerUp}
@@ -19,6 +20,10 @@ pub record ValidInputs (map : Map) (m : Machine) : Type 0 where
   pub valid : valid_constants m.lent.constants ≡ true
   pub words : (i : ℕ) → get_or m.lent.constants i 0 < 65536
   pub fuses : (i : ℕ) → get_or m.lent.cells i 0 < 65536
+
+-- life cycle words that decode to a state and a count
+abbrev pub valid_life : ℕ → ℕ → Option LifeCycle
+valid_life state count = Some (record { state = state; count = count })
 
 -- what the theorems ask of the cipher, at keys of 128 bits and blocks of 64: a block scrambled or unscrambled is one, and each undoes the other
 pub record Cipher (prims : Primitives) : Type 0 where

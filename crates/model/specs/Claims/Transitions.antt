@@ -1,5 +1,5 @@
 -- Transitions: which cells each answer leaves, when each is given, what the life cycle words stand for afterwards, and where the stored tokens lie.
-use Rattle.std.specs.Prelude.{ℕ, suc, ◌+◌, ◌*◌, ◌/◌, ◌^◌, ◌≤◌, ◌<◌, ◌≡◌, Bool, true, false, ◌||◌, List, [], ◌∷◌, ◌++◌, ◌↔◌, ◌⊎◌, eqb, None, Ok, Err}
+use Rattle.std.specs.Prelude.{ℕ, suc, ◌+◌, ◌*◌, ◌/◌, ◌^◌, ◌≤◌, ◌<◌, ◌≡◌, Bool, true, false, ◌||◌, List, [], ◌∷◌, ◌++◌, ◌↔◌, ◌⊎◌, eqb, None, Ok, Err, Option, Some}
 use Rattle.basics.specs.Choice.{when◌then◌else◌}
 use Rattle.words.specs.Words.{number_of, part_at}
 use Rattle.words.specs.Programming.{program_answer}
@@ -8,7 +8,6 @@ use Rattle.partitions.specs.Map.{Map, partition, number_of_kind}
 use Rattle.partitions.specs.Map1.{map1}
 use Rattle.partitions.specs.Map2.{map2}
 use Rattle.life_cycle.specs.declared.LifeCycle.{LifeCycle}
-use Rattle.life_cycle.specs.declared.LifeCycle.TheVariants.{Valid}
 use Rattle.life_cycle.specs.declared.Token.{Token}
 use Rattle.life_cycle.specs.declared.Token.TheVariants.{Nothing, RawUnlock, TestUnlock, TestExit, Rma}
 use Rattle.life_cycle.specs.Words.{counter_words, state_words}
@@ -22,23 +21,22 @@ use Rattle.model.specs.Lent.{Machine, Primitives, right_lengths}
 use Rattle.model.specs.Commands.{life_cycle_rule, token_kind, stored_token, counter_at, state_at, class_of, transiting}
 use Rattle.model.specs.PowerUp.{verdict_of, life_cycle_in}
 use Rattle.model.specs.Step.{step, after, machine_after, answer_to}
-use Rattle.model.specs.Claims.Terms.{ValidInputs, Says, Put, NoPowerUp}
+use Rattle.model.specs.Claims.Terms.{ValidInputs, Says, Put, NoPowerUp, valid_life}
 use Rattle.model.specs.Claims.Numbers.{Agrees, eight_from}
 use Rattle.model.specs.Claims.Refusals.{early}
 use Rattle.model.specs.declared.Phase.TheVariants as phase
 use Rattle.partitions.specs.declared.Kind.TheVariants as kind
-use Rattle.life_cycle.specs.declared.Entry.TheVariants as entry
 
 -- the codes after the stroke, with no move: "then 0x21; 0x22; 0x23"
 unfoldable pub stroke_only : ℕ → Bool
 stroke_only code = eqb code 0x21 || eqb code 0x22 || eqb code 0x23
 
 -- the progress of a life cycle: it stays, spends a stroke, or spends a stroke and takes an entry of the table
-pub data Progress (x : LifeCycle) : LifeCycle → Type 0 where
+pub data Progress (x : Option LifeCycle) : Option LifeCycle → Type 0 where
   stays : Progress x x
-  spends : {state count : ℕ} → Progress x (Valid state count) → Progress x (Valid state (suc count))
-  moves : {state count target : ℕ} {token : Token} → Progress x (Valid state count) → table_entry state target ≡ entry.Allowed token
-      → Progress x (Valid target (suc count))
+  spends : {state count : ℕ} → Progress x (valid_life state count) → Progress x (valid_life state (suc count))
+  moves : {state count target : ℕ} {token : Token} → Progress x (valid_life state count) → table_entry state target ≡ Some token
+      → Progress x (valid_life target (suc count))
 
 module _ (prims : Primitives) (map : Map) where
   -- "the 24 counter words of one stroke more than the record's count", and with them "the 20 state words" of a target, which follow
@@ -66,15 +64,15 @@ module _ (prims : Primitives) (map : Map) where
   -- the table asks for a token, and this is what comparing it comes to
   pub record Asked (m : Machine) (target given : ℕ) (same : Bool) : Type 0 where
     pub token : Token
-    pub allowed : table_entry m.session.state target ≡ entry.Allowed token
+    pub allowed : table_entry m.session.state target ≡ Some token
     pub compared : Compared m given same token
 
   -- the table asks for a token that is stored in a partition which is not sensed locked
   pub data Unlocked (m : Machine) (target : ℕ) : Type 0 where
-    test_unlock : table_entry m.session.state target ≡ entry.Allowed TestUnlock → sensed_at m.session (number_of_kind map kind.Secret0) ≡ 0
+    test_unlock : table_entry m.session.state target ≡ Some TestUnlock → sensed_at m.session (number_of_kind map kind.Secret0) ≡ 0
         → Unlocked m target
-    test_exit : table_entry m.session.state target ≡ entry.Allowed TestExit → sensed_at m.session (number_of_kind map kind.Secret0) ≡ 0 → Unlocked m target
-    rma : table_entry m.session.state target ≡ entry.Allowed Rma → sensed_at m.session (number_of_kind map kind.Secret2) ≡ 0 → Unlocked m target
+    test_exit : table_entry m.session.state target ≡ Some TestExit → sensed_at m.session (number_of_kind map kind.Secret0) ≡ 0 → Unlocked m target
+    rma : table_entry m.session.state target ≡ Some Rma → sensed_at m.session (number_of_kind map kind.Secret2) ≡ 0 → Unlocked m target
 
   -- a programmed bit of the counter words would be cleared; or, where the table's token was given, one of the state words
   pub data Stops (m : Machine) (target given : ℕ) : Type 0 where
@@ -100,7 +98,7 @@ module _ (prims : Primitives) (map : Map) where
 
   -- the life cycle words decode to a state and a count; and the next power-up, if no digest check fails, answers them, SCRAP (20) with 7
   pub record Leaves (state count : ℕ) (m : Machine) : Type 0 where
-    pub decodes : life_cycle_in map m.lent ≡ Valid state count
+    pub decodes : life_cycle_in map m.lent ≡ valid_life state count
     pub answered : (l : List Command) → NoPowerUp l
         → let m₁ = after prims map l m in
         verdict_of prims map m₁.lent ≡ None → Says (when eqb state 20 then 0x07 else 0x00) (256 * count + state) (answer_to prims map PowerUp m₁)
@@ -138,7 +136,7 @@ module _ (prims : Primitives) (map : Map) where
         × (target ≤ 20 → m.session.count < 24
         → ((code ≡ 0x04) ↔ Stops m target given)
         × ((code ≡ 0x04 → ⊥)
-        → ((code ≡ 0x21) ↔ (table_entry m.session.state target ≡ entry.Forbidden))
+        → ((code ≡ 0x21) ↔ (table_entry m.session.state target ≡ None))
         × ((code ≡ 0x22) ↔ Unlocked m target)
         × ((code ≡ 0x23) ↔ Asked m target given false)
         × ((code ≡ 0x00) ↔ Asked m target given true)))
@@ -155,9 +153,9 @@ module _ (prims : Primitives) (map : Map) where
         → let s = step prims map (Transition target given) m in
         let code = code_of s.result.answer in
         (code ≡ 0x23 → s.compared ≡ false ∷ [])
-        × (code ≡ 0x00 → table_entry m.session.state target ≡ entry.Allowed Nothing → s.compared ≡ [])
-        × (code ≡ 0x00 → (table_entry m.session.state target ≡ entry.Allowed Nothing → ⊥) → s.compared ≡ true ∷ [])
-        × (code ≡ 0x04 → (s.compared ≡ []) ⊎ ((table_entry m.session.state target ≡ entry.Allowed Nothing → ⊥) × (s.compared ≡ true ∷ [])))
+        × (code ≡ 0x00 → table_entry m.session.state target ≡ Some Nothing → s.compared ≡ [])
+        × (code ≡ 0x00 → (table_entry m.session.state target ≡ Some Nothing → ⊥) → s.compared ≡ true ∷ [])
+        × (code ≡ 0x04 → (s.compared ≡ []) ⊎ ((table_entry m.session.state target ≡ Some Nothing → ⊥) × (s.compared ≡ true ∷ [])))
         × ((code ≡ 0x23 → ⊥) → (code ≡ 0x00 → ⊥) → (code ≡ 0x04 → ⊥) → s.compared ≡ [])
     pub no_comparison : (m : Machine) (x : Command) → (class_of x ≡ transiting → ⊥) → (step prims map x m).compared ≡ []
     -- a transition that answers 0 was given the token that the table asks for, by its hash, and one that answers 0x23 another, on any machine
@@ -180,7 +178,7 @@ module _ (prims : Primitives) (map : Map) where
     pub progress : (m : Machine) → ValidInputs map m → (l₁ l₂ : List Command)
         → Progress (life_cycle_in map (after prims map (PowerUp ∷ l₁) m).lent) (life_cycle_in map (after prims map (PowerUp ∷ l₁ ++ l₂) m).lent)
     -- and the stroke count never falls
-    pub counts : (s n t k : ℕ) → Progress (Valid s n) (Valid t k) → n ≤ k
+    pub counts : (s n t k : ℕ) → Progress (valid_life s n) (valid_life t k) → n ≤ k
 
 -- "SECRET0 (TEST_UNLOCK, TEST_EXIT, 16 bytes each)", "SECRET2 (RMA token 16, two root key shares 32 each)", and in Map 2 the same items in the same order: at
 -- which byte of the copy each token stands, and the number of the partition whose lock it asks for
