@@ -3,11 +3,10 @@
 use mathlib.Core.Path.{◌≡◌, refl, sym, ap, ◌∙◌}
 use mathlib.Core.Bool.{true, false, not, ◌&&◌}
 use mathlib.Core.List.{List}
-use mathlib.Core.Option.{Option, none, some}
 use Prim.Native.Nat.{ℕ, ◌/◌}
 use native.Mathlib.Omega.{arith}
 use lib.Dec.{eqb}
-use Rattle.std.specs.Prelude.{Ok, Err}
+use Rattle.std.specs.Prelude.{Some, None}
 use lib.ListN.{length}
 use borrow.Author.Tests.{eqb-true, eq-eqb, ne_eqb}
 use Rattle.basics.proofs.Choice.{by-option, by_cases, and-three, and-false, if-true, if-false}
@@ -16,29 +15,20 @@ use Rattle.partitions.specs.Map.{Map, limit}
 use Rattle.constants.specs.Constants.{constant_count, valid_constants}
 use Rattle.model.specs.declared.Phase.{Phase}
 use Rattle.model.specs.declared.Sizes.{Sizes}
-use Rattle.model.specs.declared.Answer.{Answer}
-use Rattle.model.specs.declared.Answer.TheVariants.{NotReady, WrongLength, InvalidConstants}
+use Rattle.model.specs.declared.Failure.{Failure}
+use Rattle.model.specs.declared.Failure.TheVariants.{NotReady, WrongLength, InvalidConstants}
 use Rattle.model.specs.Session.{is_ready}
 use Rattle.model.specs.Lent.{right_sizes}
 use Rattle.model.specs.Step.{judgement}
 use Rattle.model.proofs.Steps.{judgement-right}
-use Rattle.chip.specs.Judging.{judged_as, admission}
-
--- accepted, or refused with an answer: what the refusal then is
-pub accepted-none : (o : Option Answer) → judged_as o ≡ Ok tt → o ≡ none
-accepted-none none e = refl
-accepted-none (some answer) e = cc
-
-pub refused-some : (o : Option Answer) (answer : Answer) → judged_as o ≡ Err answer → o ≡ some answer
-refused-some none answer e = cc
-refused-some (some a) answer e = ap some (let q : a ≡ answer = cc in q)
+use Rattle.chip.specs.Judging.{admission}
 
 module _ (map : Map) (sizes : Sizes) (k : List ℕ) where
   -- ---- each reason
 
-  pub wrong-length : right_sizes map sizes (length k) ≡ false → Err WrongLength ≡ judged_as (judgement map sizes k)
+  pub wrong-length : right_sizes map sizes (length k) ≡ false → Some WrongLength ≡ judgement map sizes k
   unfolding judgement
-  wrong-length e = ap judged_as (sym (if-true _ _ (ap not e)))
+  wrong-length e = sym (if-true _ _ (ap not e))
 
   pub cells-wrong : (sizes.cells ≡ limit map / 2 → ⊥) → right_sizes map sizes (length k) ≡ false
   unfolding right_sizes
@@ -56,13 +46,13 @@ module _ (map : Map) (sizes : Sizes) (k : List ℕ) where
   unfolding right_sizes
   sizes-right a b c = rw (eq-eqb sizes.cells (limit map / 2) a, eq-eqb sizes.copy (limit map / 2) b, eq-eqb (length k) constant_count c)
 
-  pub invalid-constants : right_sizes map sizes (length k) ≡ true → valid_constants k ≡ false → Err InvalidConstants ≡ judged_as (judgement map sizes k)
+  pub invalid-constants : right_sizes map sizes (length k) ≡ true → valid_constants k ≡ false → Some InvalidConstants ≡ judgement map sizes k
   unfolding judgement
-  invalid-constants e v = ap judged_as (sym (if-false _ _ (ap not e) ∙ if-true _ _ (ap not v)))
+  invalid-constants e v = sym (if-false _ _ (ap not e) ∙ if-true _ _ (ap not v))
 
-  pub accepted : right_sizes map sizes (length k) ≡ true → valid_constants k ≡ true → Ok tt ≡ judged_as (judgement map sizes k)
+  pub accepted : right_sizes map sizes (length k) ≡ true → valid_constants k ≡ true → None ≡ judgement map sizes k
   unfolding judgement
-  accepted e v = ap judged_as (sym (if-false _ _ (ap not e) ∙ if-false _ _ (ap not v)))
+  accepted e v = sym (if-false _ _ (ap not e) ∙ if-false _ _ (ap not v))
 
   -- ---- what is known once it is accepted
 
@@ -70,7 +60,7 @@ module _ (map : Map) (sizes : Sizes) (k : List ℕ) where
     pub cells_right : sizes.cells ≡ limit map / 2
     pub copy-right : sizes.copy ≡ limit map / 2
 
-  pub accepts : judgement map sizes k ≡ none → Accepts
+  pub accepts : judgement map sizes k ≡ None → Accepts
   unfolding right_sizes
   accepts e =
       let s = and-three (eqb sizes.cells (limit map / 2)) (eqb sizes.copy (limit map / 2)) _ (judgement-right map sizes k e).0 in
@@ -79,19 +69,19 @@ module _ (map : Map) (sizes : Sizes) (k : List ℕ) where
   -- ---- the phase
 
   module _ (phase : Phase) where
-    pub not-accepted : (answer : Answer) → judgement map sizes k ≡ some answer → admission map sizes k phase ≡ some answer
+    pub not-accepted : (failure : Failure) → judgement map sizes k ≡ Some failure → admission map sizes k phase ≡ Some failure
     unfolding admission
-    not-accepted answer e = rw (e, admission)
+    not-accepted failure e = rw (e, admission)
 
-    pub phase-not-ready : judgement map sizes k ≡ none → is_ready phase ≡ false → admission map sizes k phase ≡ some NotReady
+    pub phase-not-ready : judgement map sizes k ≡ None → is_ready phase ≡ false → admission map sizes k phase ≡ Some NotReady
     unfolding admission
     phase-not-ready e r = rw (e, admission) (if-false _ _ r)
 
-    pub phase-ready : judgement map sizes k ≡ none → is_ready phase ≡ true → admission map sizes k phase ≡ none
+    pub phase-ready : judgement map sizes k ≡ None → is_ready phase ≡ true → admission map sizes k phase ≡ None
     unfolding admission
     phase-ready e r = rw (e, admission) (if-true _ _ r)
 
-    pub admitted : admission map sizes k phase ≡ none → (judgement map sizes k ≡ none) × (is_ready phase ≡ true)
+    pub admitted : admission map sizes k phase ≡ None → (judgement map sizes k ≡ None) × (is_ready phase ≡ true)
     admitted h =
         by-option (judgement map sizes k)
         (λ e. by_cases (is_ready phase) (λ r. (e, r)) (λ r. absurd (some-not-none (sym (phase-not-ready e r) ∙ h))))
@@ -99,4 +89,4 @@ module _ (map : Map) (sizes : Sizes) (k : List ℕ) where
 
 pub ruleset judgements = (wrong-length, cells-wrong, copy-wrong, constants-wrong, sizes-right, invalid-constants, accepted)
 
-pub ruleset admissions = (accepted-none, refused-some, not-accepted, phase-not-ready, phase-ready)
+pub ruleset admissions = (not-accepted, phase-not-ready, phase-ready)

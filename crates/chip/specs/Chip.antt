@@ -11,7 +11,7 @@ use Rattle.model.specs.declared.Command.{Command}
 use Rattle.model.specs.declared.Outcome.{Outcome}
 use Rattle.model.specs.Lent.{Lent, Machine, Primitives}
 use Rattle.model.specs.Commands.{computed_digest}
-use Rattle.model.specs.Step.{Result, step}
+use Rattle.model.specs.Step.{Answered, step}
 
 abbrev pub primitives : Primitives
 primitives = record { encrypt = encrypt_block; decrypt = decrypt_block; digest = digest_words; hash = token_hash }
@@ -25,11 +25,11 @@ abbrev pub machine_of : Lent → Session → Machine
 machine_of l session = record { lent = l; session = session }
 
 -- what is lent after a command, with what it gave back
-abbrev pub result_of : Lent → Outcome → Result
+abbrev pub result_of : Lent → Outcome → Answered
 result_of l outcome = record { machine = machine_of l outcome.session; answer = outcome.answer }
 
 -- what the model makes of a command
-abbrev pub result_for : Map → Command → Machine → Result
+abbrev pub result_for : Map → Command → Machine → Answered
 result_for map x m = (step primitives map x m).result
 
 -- The promise of a command: with this record and what is lent before, it leaves what is lent after and gives this outcome.

@@ -1,18 +1,19 @@
 // What commands share: they judge what they are lent, and find keys and digests in it.
 #![tactic(auto)]
 
-ghost use Rattle.std.specs.Prelude.{◌≡◌, ◌+◌, ◌*◌, ◌^◌};
+ghost use Rattle.std.specs.Prelude.{◌≡◌, length};
+ghost use Rattle.std.specs.Result.{result_err};
 ghost use Rattle.digest.specs.Digest.{digest_words};
 ghost use Rattle.partitions.specs.Maps.{map_of};
 ghost use Rattle.constants.specs.Constants.{key_of, digest_start, digest_final};
 ghost use Rattle.model.specs.Commands.{stored_digest, scrambled, unscrambled, counter_at, state_at};
 ghost use Rattle.model.specs.Step.{judgement};
 ghost use Rattle.chip.specs.Chip.{primitives, digest_within};
-ghost use Rattle.chip.specs.Judging.{judged_as, admission};
+ghost use Rattle.chip.specs.Judging.{admission};
 
-use model::{Answer, Phase, Sizes};
+use model::{Failure, Phase, Sizes};
 use partitions::{Kind, MapName, Partition};
-use words::{Halves, block_at, eight_words};
+use words::{block_at, eight_words};
 
 // What is fixed of a chip: its map and its constants.
 #[derive(Clone, Copy)]
@@ -24,47 +25,47 @@ pub struct Chip<'a> {
 impl Chip<'_> {
     // Judges the lengths of cells and copy, and the constants, in the paper's order.
     #[tactic(auto, using(crate::proofs::Judging::judgements))]
-    pub fn judge(self, sizes: Sizes) -> Result<(), Answer>
-        ensures { result ≡ judged_as (judgement (map_of self.entry.map) sizes self.entry.constants.now) }
+    pub fn judge(self, sizes: Sizes) -> Result<(), Failure>
+        ensures { result_err result ≡ judgement (map_of self.entry.map) sizes self.entry.constants.now }
     {
         let words = self.map.words();
         if sizes.cells != words {
-            return Err(Answer::WrongLength);
+            return Err(Failure::WrongLength);
         }
         if sizes.copy != words {
-            return Err(Answer::WrongLength);
+            return Err(Failure::WrongLength);
         }
         if self.constants.len() != constants::COUNT {
-            return Err(Answer::WrongLength);
+            return Err(Failure::WrongLength);
         }
         if !constants::valid_constants(self.constants) {
-            return Err(Answer::InvalidConstants);
+            return Err(Failure::InvalidConstants);
         }
         Ok(())
     }
 
     // What every command but power-up tests first: what is lent, then the phase.
     #[tactic(auto, using(crate::proofs::Judging::admissions), unfolding(model::specs::Session::is_ready))]
-    pub fn admit(self, sizes: Sizes, phase: Phase) -> Result<(), Answer>
-        ensures { result ≡ judged_as (admission (map_of self.entry.map) sizes self.entry.constants.now phase) }
+    pub fn admit(self, sizes: Sizes, phase: Phase) -> Result<(), Failure>
+        ensures { result_err result ≡ admission (map_of self.entry.map) sizes self.entry.constants.now phase }
     {
         self.judge(sizes)?;
         match phase {
             Phase::Ready => Ok(()),
-            Phase::Off | Phase::Inert | Phase::Dead(_) => Err(Answer::NotReady),
+            Phase::Off | Phase::Inert | Phase::Dead(_) => Err(Failure::NotReady),
         }
     }
 
     // The key of a kind. Only the secrets have one.
     #[tactic(auto, unfolding(constants::specs::Constants::key_of))]
-    pub fn key_of(self, kind: Kind) -> Halves
-        ensures { result.high * 2 ^ 64 + result.low ≡ key_of self.entry.constants.now kind }
+    pub fn key_of(self, kind: Kind) -> u128
+        ensures { result ≡ key_of self.entry.constants.now kind }
     {
         match kind {
             Kind::Secret0 => eight_words(self.constants, constants::SECRET0_KEY),
             Kind::Secret1 => eight_words(self.constants, constants::SECRET1_KEY),
             Kind::Secret2 => eight_words(self.constants, constants::SECRET2_KEY),
-            Kind::Software | Kind::AuthState | Kind::HwCfg | Kind::LifeCycle => Halves { high: 0, low: 0 },
+            Kind::Software | Kind::AuthState | Kind::HwCfg | Kind::LifeCycle => 0,
         }
     }
 
@@ -76,8 +77,7 @@ impl Chip<'_> {
         if !partition.rights().scrambled {
             return block;
         }
-        let key = self.key_of(partition.kind);
-        present::encrypt(key.high, key.low, block)
+        present::encrypt(self.key_of(partition.kind), block)
     }
 
     // A block that a partition stored, in the clear.
@@ -88,8 +88,7 @@ impl Chip<'_> {
         if !partition.rights().scrambled {
             return block;
         }
-        let key = self.key_of(partition.kind);
-        present::decrypt(key.high, key.low, block)
+        present::decrypt(self.key_of(partition.kind), block)
     }
 
     // The digest of data words, from the start value and the final key of the constants.
@@ -98,8 +97,8 @@ impl Chip<'_> {
         ensures { result ≡ digest_words (digest_start self.entry.constants.now) (digest_final self.entry.constants.now) «data».now }
     {
         let start = block_at(self.constants, constants::DIGEST_START);
-        let key = eight_words(self.constants, constants::DIGEST_FINAL);
-        digest::digest(start, key.high, key.low, data)
+        let final_key = eight_words(self.constants, constants::DIGEST_FINAL);
+        digest::digest(start, final_key, data)
     }
 
     // The digest of a partition's data words, as stored; 0 for a partition that does not lie in the cells.
@@ -128,6 +127,16 @@ impl Chip<'_> {
         ensures { result ≡ state_at (map_of self.entry.map) }
     {
         self.counter_at() + 24
+    }
+}
+
+// How many words are lent as cells and as sensed copy.
+pub fn sizes_of(cells: &[u16], copy: &[u16]) -> Sizes
+    ensures { result ≡ record { cells = length cells.now; copy = length copy.now } }
+{
+    Sizes {
+        cells: cells.len(),
+        copy: copy.len(),
     }
 }
 

@@ -1,6 +1,7 @@
 -- The commands on an address, each as one test. The idea: past the map an address is denied as it is by the command's own rule, so that both are one test and
 -- the act behind it.
 use mathlib.Core.Path.{◌≡◌, refl}
+use Rattle.std.specs.Prelude.{Ok}
 use mathlib.Core.Bool.{Bool, ◌||◌}
 use Prim.Native.Nat.{ℕ, ◌/◌}
 use lib.Dec.{leb}
@@ -8,7 +9,7 @@ use Rattle.basics.specs.Choice.{when◌then◌else◌}
 use Rattle.words.specs.Words.{words_of}
 use Rattle.partitions.specs.declared.Partition.{Partition}
 use Rattle.partitions.specs.Map.{Map, number_at, partition_at, limit, first_word}
-use Rattle.model.specs.declared.Answer.TheVariants.{Done, Denied}
+use Rattle.model.specs.declared.Failure.TheVariants.{Denied}
 use Rattle.model.specs.declared.Command.{Command}
 use Rattle.model.specs.declared.Command.TheVariants.{Read, Write, FrontRead, Digest}
 use Rattle.model.specs.Session.{sensed_locked, read_locked}
@@ -32,20 +33,20 @@ digest_now m p = computed_digest primitives m.lent.constants p m.lent.cells
 
 module _ (map : Map) (m : Machine) (a : ℕ) where
   pub read-decided : Decided map (Read a) m a (λ n p. read_denied (sensed_locked m.session n) (read_locked m.session n) p a)
-      (λ p. say (Done (read_value primitives m.lent.constants p m.lent.cells a)) no_effect)
+      (λ p. say (Ok (read_value primitives m.lent.constants p m.lent.cells a)) no_effect)
   unfolding command_act read_act
   read-decided = record { acts = tt; decides = refl }
 
-  pub front-decided : Decided map (FrontRead a) m a (λ n p. front_read_denied p a) (λ p. say (Done (granule p m.lent.copy a)) no_effect)
+  pub front-decided : Decided map (FrontRead a) m a (λ n p. front_read_denied p a) (λ p. say (Ok (granule p m.lent.copy a)) no_effect)
   unfolding command_act front_read_act
   front-decided = record { acts = tt; decides = refl }
 
   pub write-decided : (value : ℕ) → Decided map (Write a value) m a (λ n p. write_denied (sensed_locked m.session n) p a)
-      (λ p. program (direct_rule p a) (first_word p a) (stored_form primitives m.lent.constants p a value) no_effect (say (Done 0) no_effect))
+      (λ p. program (direct_rule p a) (first_word p a) (stored_form primitives m.lent.constants p a value) no_effect (say (Ok 0) no_effect))
   unfolding command_act write_act
   write-decided value = record { acts = tt; decides = refl }
 
   pub digest-decided : Decided map (Digest a) m a (λ n p. digest_denied (sensed_locked m.session n) p a)
-      (λ p. program digest_rule (p.digest / 2) (words_of 4 (digest_now m p)) no_effect (say (Done (digest_now m p)) no_effect))
+      (λ p. program digest_rule (p.digest / 2) (words_of 4 (digest_now m p)) no_effect (say (Ok (digest_now m p)) no_effect))
   unfolding command_act digest_act
   digest-decided = record { acts = tt; decides = refl }

@@ -2,7 +2,7 @@
 use mathlib.Core.Path.{◌≡◌, sym, ap, ◌∙◌}
 use mathlib.Core.Bool.{true}
 use mathlib.Core.List.{List}
-use mathlib.Core.Option.{Option, none, some}
+use Rattle.std.specs.Prelude.{Option, Some, None, Ok, Err}
 use Prim.Native.Nat.{ℕ, ◌+◌, ◌-◌, ◌/◌, ◌≤◌, ◌<◌}
 use native.Mathlib.Omega.{arith}
 use lib.Dec.{leb}
@@ -18,11 +18,11 @@ use Rattle.partitions.specs.Fitness.{fit}
 use Rattle.partitions.proofs.Map.{inside, end-within}
 use Rattle.partitions.proofs.Granules.{granule-inside, granule-within}
 use Rattle.model.specs.declared.Phase.{Phase}
-use Rattle.model.specs.declared.Answer.{Answer}
-use Rattle.model.specs.declared.Answer.TheVariants.{Denied}
+use Rattle.model.specs.declared.Failure.{Failure}
+use Rattle.model.specs.declared.Failure.TheVariants.{Denied}
 use Rattle.model.specs.Commands.{granule}
 use Rattle.model.specs.declared.Sizes.{Sizes}
-use Rattle.direct_access.specs.declared.Reached.TheVariants.{At, Refused}
+use Rattle.direct_access.specs.declared.Place.{Place}
 use Rattle.direct_access.specs.Access.{reached_of}
 use Rattle.chip.specs.Judging.{admission}
 use Rattle.chip.proofs.Judging.{accepts, admitted}
@@ -38,59 +38,49 @@ granule-slice ws p a at n e f l u =
     rw (s, e, f) (ap number_of (take_all 4 _ (omega (arith, whole)) ∙ sym (part_slice ws w (word_count p a) l)))
 
 module _ (map : Map) (sizes : Sizes) (k : List ℕ) (phase : Phase) (a : ℕ) where
-  abbrev admitting : Option Answer
+  abbrev admitting : Option Failure
   admitting = admission map sizes k phase
+
+  -- the number and the partition of the address
+  abbrev place : Place
+  place = record { number = number_at map a; partition = partition_at map a }
 
   -- ---- what the code finds
 
-  pub not-admitted : (b : Answer) → admitting ≡ some b → reached_of map admitting a ≡ Refused b
+  pub not-admitted : (f : Failure) → admitting ≡ Some f → reached_of map admitting a ≡ Err f
   unfolding reached_of
-  not-admitted b e = rw e
+  not-admitted f e = rw e
 
-  pub past-map : admitting ≡ none → limit map ≤ a → reached_of map admitting a ≡ Refused Denied
+  pub past-map : admitting ≡ None → limit map ≤ a → reached_of map admitting a ≡ Err Denied
   unfolding reached_of
   past-map e h = rw e (if-true _ _ (le-leb _ _ h))
 
-  pub in_map : admitting ≡ none → a < limit map → reached_of map admitting a ≡ At (number_at map a) (partition_at map a)
+  pub in_map : admitting ≡ None → a < limit map → reached_of map admitting a ≡ Ok place
   unfolding reached_of
   in_map e h = rw e (if-false _ _ (lt-leb _ _ h))
 
   -- ---- what follows from it
 
-  -- n and p are the number and the partition of the address
-  pub record Place (n : ℕ) (p : Partition) : Type 0 where
-    pub admitted-there : admission map sizes k phase ≡ none
+  -- q is the place of the address, and the command is admitted
+  pub record Located (q : Place) : Type 0 where
+    pub admitted-there : admitting ≡ None
     pub within : a < limit map
-    pub number : n ≡ number_at map a
-    pub found : p ≡ partition_at map a
+    pub found : q ≡ place
     pub cells-held : sizes.cells ≡ limit map / 2
     pub copy-held : sizes.copy ≡ limit map / 2
 
   -- the address is refused for want of admission, or lies past the map; or it has a place
-  pub by_place {ℓ} : {X : Type ℓ} → ((b : Answer) → admitting ≡ some b → X) → (admitting ≡ none → limit map ≤ a → X) → (admitting ≡ none → a < limit map → X)
+  pub by_place {ℓ} : {X : Type ℓ} → ((f : Failure) → admitting ≡ Some f → X) → (admitting ≡ None → limit map ≤ a → X) → (admitting ≡ None → a < limit map → X)
       → X
   by_place f g h = by-option admitting (λ e. by_cases (leb (limit map) a) (λ t. g e (leb-true _ _ t)) (λ t. h e (leb-false _ _ t))) f
 
-  refused-not-at : {b : Answer} {n : ℕ} {p : Partition} → Refused b ≡ At n p → ⊥
-  refused-not-at e = let z : ◌≡◌ {A = ℕ} 0 1 = cc in omega arith
-
-  pub reached-at : (n : ℕ) (p : Partition) → reached_of map admitting a ≡ At n p → Place n p
-  reached-at n p r =
-      by_place (λ b e. absurd (refused-not-at (sym (not-admitted b e) ∙ r))) (λ e h. absurd (refused-not-at (sym (past-map e h) ∙ r)))
-      there
-    where
-      there : admission map sizes k phase ≡ none → a < limit map → Place n p
-      there e h =
-          let s : At (number_at map a) (partition_at map a) ≡ At n p = sym (in_map e h) ∙ r in
-          let t = accepts map sizes k (admitted map sizes k phase e).0 in
-          record {
-            admitted-there = e;
-            within = h;
-            number = cc;
-            found = cc;
-            cells-held = t.cells_right;
-            copy-held = t.copy-right;
-          }
+  pub reached-at : (q : Place) → reached_of map admitting a ≡ Ok q → Located q
+  reached-at q r =
+      by_place (λ f e. let z = not-admitted f e in cc) (λ e h. let z = past-map e h in cc)
+      (λ e h.
+        let z = in_map e h in
+        let t = accepts map sizes k (admitted map sizes k phase e).0 in
+        record { admitted-there = e; within = h; found = cc; cells-held = t.cells_right; copy-held = t.copy-right })
 
   -- the granule lies in cells and copy, the data words in the cells
   pub record Held (p : Partition) : Type 0 where
@@ -100,10 +90,10 @@ module _ (map : Map) (sizes : Sizes) (k : List ℕ) (phase : Phase) (a : ℕ) wh
     pub data-first : p.start / 2 ≤ p.digest / 2
     pub data-in-cells : p.digest / 2 ≤ sizes.cells
 
-  pub held : fit map ≡ true → (n : ℕ) (p : Partition) → reached_of map admitting a ≡ At n p → Held p
+  pub held : fit map ≡ true → (q : Place) → reached_of map admitting a ≡ Ok q → Held q.partition
   unfolding partition_at
-  held fits n p r =
-      let l = reached-at n p r in
+  held fits q r =
+      let l = reached-at q r in
       let h = l.within in
       let i = inside map fits h in
       let w = granule-within map fits h in

@@ -1,21 +1,21 @@
--- What the code of the commands on an address finds on its way: the place of the address, and the answer of a programming.
-use Rattle.std.proofs.Math.Option.{Option, none, some}
-use Rattle.std.specs.Prelude.{ℕ, leb}
+-- What the code of the commands on an address finds on its way: the place of the address, and the answer.
+use Rattle.std.specs.Prelude.{ℕ, leb, List, Option, Some, None, Result, Ok, Err}
 use Rattle.basics.specs.Choice.{when◌then◌else◌}
-use Rattle.words.specs.declared.Programmed.{Programmed}
-use Rattle.words.specs.declared.Programmed.TheVariants as programmed
 use Rattle.partitions.specs.Map.{Map, number_at, partition_at, limit}
-use Rattle.model.specs.declared.Answer.{Answer}
-use Rattle.model.specs.declared.Answer.TheVariants.{Done, NotBlank, Denied}
-use Rattle.direct_access.specs.declared.Reached.{Reached}
-use Rattle.direct_access.specs.declared.Reached.TheVariants.{At, Refused}
+use Rattle.model.specs.declared.Failure.{Failure}
+use Rattle.model.specs.declared.Failure.TheVariants.{Denied}
+use Rattle.model.specs.declared.Command.{Command}
+use Rattle.model.specs.declared.Session.{Session}
+use Rattle.model.specs.Answers.{Answer}
+use Rattle.model.specs.Lent.{Lent}
+use Rattle.chip.specs.Chip.{Executes}
+use Rattle.direct_access.specs.declared.Place.{Place}
 
 -- the place of an address: the command is refused before it, the address is past the map, or it has one
-unfoldable pub reached_of : Map → Option Answer → ℕ → Reached
-reached_of map (some answer) a = Refused answer
-reached_of map none a = when leb (limit map) a then Refused Denied else At (number_at map a) (partition_at map a)
+unfoldable pub reached_of : Map → Option Failure → ℕ → Result Place Failure
+reached_of map (Some failure) a = Err failure
+reached_of map None a = when leb (limit map) a then Err Denied else Ok (record { number = number_at map a; partition = partition_at map a })
 
--- a value where the words were programmed, 4 where a cell refused
-abbrev pub programmed_answer : Programmed → ℕ → Answer
-programmed_answer programmed.Done value = Done value
-programmed_answer (programmed.Refused cell) value = NotBlank cell
+-- the promise of a command that leaves the session record as it was, by its answer
+abbrev pub Answers : Map → Command → Session → Lent → Lent → Answer → Type 0
+Answers map x session before after answer = Executes map x session before after (record { session = session; answer = answer })

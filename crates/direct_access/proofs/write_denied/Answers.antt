@@ -1,8 +1,0 @@
--- The tests are those of the definition.
-use mathlib.Core.Path.{refl}
-use Rattle.model.specs.Commands.{write_denied}
-use Rattle.direct_access.proofs.write_denied.Goals as goal
-
-pub returns : goal.returns
-unfolding write_denied
-returns c = rw (c.rights-rights.ensures, c.in_digest-in_digest.ensures) refl
