@@ -17,23 +17,8 @@ use Rattle.constants.specs.Constants.{key_of, digest_start, digest_final}
 use Rattle.model.specs.Commands.{data_words, scrambled, unscrambled, computed_digest}
 use Rattle.chip.specs.Chip.{primitives, digest_within}
 
--- a secret's blocks are stored scrambled, all others plain
-module _ (k : List ℕ) (p : Partition) (block : ℕ) where
-  pub plain : (rights_of p.kind).scrambled ≡ false → block ≡ scrambled primitives k p block
-  unfolding scrambled
-  plain e = sym (if-false _ _ e)
-
-  pub plain_back : (rights_of p.kind).scrambled ≡ false → block ≡ unscrambled primitives k p block
-  unfolding unscrambled
-  plain_back e = sym (if-false _ _ e)
-
-  pub secret : (rights_of p.kind).scrambled ≡ true → encrypt_block (key_of k p.kind) block ≡ scrambled primitives k p block
-  unfolding scrambled
-  secret e = sym (if-true _ _ e)
-
-  pub secret-back : (rights_of p.kind).scrambled ≡ true → decrypt_block (key_of k p.kind) block ≡ unscrambled primitives k p block
-  unfolding unscrambled
-  secret-back e = sym (if-true _ _ e)
+-- a choice whose test is known
+pub ruleset choices = (if-true, if-false)
 
 -- the digest over the slice of the data words
 pub data-digest : (k : List ℕ) (p : Partition) (cells : List ℕ) → p.start / 2 ≤ p.digest / 2 → p.digest / 2 ≤ length cells
@@ -56,7 +41,5 @@ pub digest-within : (cells k : List ℕ) (p : Partition) → p.start / 2 ≤ p.d
     → digest_within cells k p ≡ computed_digest primitives k p cells
 unfolding digest_within
 digest-within cells k p l u = if-false _ _ (or-none _ _ (le-ltb _ _ l) (le-ltb _ _ u))
-
-pub ruleset blocks = (plain, plain_back, secret, secret-back)
 
 pub ruleset within_laws = (within-order, within-cells, digest-within, data-digest)

@@ -70,7 +70,7 @@ impl Chip<'_> {
     }
 
     // A block as a partition stores it.
-    #[tactic(auto, using(crate::proofs::Reading::blocks))]
+    #[tactic(auto, using(crate::proofs::Reading::choices), unfolding(model::specs::Commands::scrambled))]
     pub fn scrambled(self, partition: Partition, block: u64) -> u64
         ensures { result ≡ scrambled primitives self.entry.constants.now partition block }
     {
@@ -81,7 +81,7 @@ impl Chip<'_> {
     }
 
     // A block that a partition stored, in the clear.
-    #[tactic(auto, using(crate::proofs::Reading::blocks))]
+    #[tactic(auto, using(crate::proofs::Reading::choices), unfolding(model::specs::Commands::unscrambled))]
     pub fn unscrambled(self, partition: Partition, block: u64) -> u64
         ensures { result ≡ unscrambled primitives self.entry.constants.now partition block }
     {

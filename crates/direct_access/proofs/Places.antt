@@ -2,7 +2,7 @@
 use mathlib.Core.Path.{◌≡◌, sym, ap, ◌∙◌}
 use mathlib.Core.Bool.{true}
 use mathlib.Core.List.{List}
-use Rattle.std.specs.Prelude.{Option, Some, None, Ok, Err}
+use Rattle.std.specs.Prelude.{Some, None, Ok, Err}
 use Prim.Native.Nat.{ℕ, ◌+◌, ◌-◌, ◌/◌, ◌≤◌, ◌<◌}
 use native.Mathlib.Omega.{arith}
 use lib.Dec.{leb}
@@ -17,15 +17,14 @@ use Rattle.partitions.specs.Map.{Map, number_at, partition_at, limit, first_word
 use Rattle.partitions.specs.Fitness.{fit}
 use Rattle.partitions.proofs.Map.{inside, end-within}
 use Rattle.partitions.proofs.Granules.{granule-inside, granule-within}
-use Rattle.model.specs.declared.Phase.{Phase}
 use Rattle.model.specs.declared.Failure.{Failure}
 use Rattle.model.specs.declared.Failure.TheVariants.{Denied}
 use Rattle.model.specs.Commands.{granule}
-use Rattle.model.specs.declared.Sizes.{Sizes}
+use Rattle.model.specs.Lent.{Machine, sizes_of}
 use Rattle.direct_access.specs.declared.Place.{Place}
-use Rattle.direct_access.specs.Access.{reached_of}
-use Rattle.chip.specs.Judging.{admission}
+use Rattle.direct_access.specs.Access.{reached}
 use Rattle.chip.proofs.Judging.{accepts, admitted}
+use Rattle.chip.proofs.Acting.{admitting}
 
 -- the slice of a granule, joined
 pub granule-slice : (ws : List ℕ) (p : Partition) (a at n : ℕ) → at ≡ first_word p a → n ≡ word_count p a → first_word p a + word_count p a ≤ length ws
@@ -37,60 +36,57 @@ granule-slice ws p a at n e f l u =
     let whole = length-take-le (word_count p a) (drop w ws) (rw length-drop (omega arith)) in
     rw (s, e, f) (ap number_of (take_all 4 _ (omega (arith, whole)) ∙ sym (part_slice ws w (word_count p a) l)))
 
-module _ (map : Map) (sizes : Sizes) (k : List ℕ) (phase : Phase) (a : ℕ) where
-  abbrev admitting : Option Failure
-  admitting = admission map sizes k phase
-
+module _ (map : Map) (m : Machine) (a : ℕ) where
   -- the number and the partition of the address
   abbrev place : Place
   place = record { number = number_at map a; partition = partition_at map a }
 
   -- ---- what the code finds
 
-  pub not-admitted : (f : Failure) → admitting ≡ Some f → reached_of map admitting a ≡ Err f
-  unfolding reached_of
-  not-admitted f e = rw e
+  pub not-admitted : (f : Failure) → admitting map m ≡ Some f → reached map m a ≡ Err f
+  unfolding reached
+  not-admitted f e = rw (e, reached)
 
-  pub past-map : admitting ≡ None → limit map ≤ a → reached_of map admitting a ≡ Err Denied
-  unfolding reached_of
-  past-map e h = rw e (if-true _ _ (le-leb _ _ h))
+  pub past-map : admitting map m ≡ None → limit map ≤ a → reached map m a ≡ Err Denied
+  unfolding reached
+  past-map e h = rw (e, reached) (if-true _ _ (le-leb _ _ h))
 
-  pub in_map : admitting ≡ None → a < limit map → reached_of map admitting a ≡ Ok place
-  unfolding reached_of
-  in_map e h = rw e (if-false _ _ (lt-leb _ _ h))
+  pub in_map : admitting map m ≡ None → a < limit map → reached map m a ≡ Ok place
+  unfolding reached
+  in_map e h = rw (e, reached) (if-false _ _ (lt-leb _ _ h))
 
   -- ---- what follows from it
 
   -- q is the place of the address, and the command is admitted
   pub record Located (q : Place) : Type 0 where
-    pub admitted-there : admitting ≡ None
+    pub admitted-there : admitting map m ≡ None
     pub within : a < limit map
     pub found : q ≡ place
-    pub cells-held : sizes.cells ≡ limit map / 2
-    pub copy-held : sizes.copy ≡ limit map / 2
+    pub cells-held : length m.lent.cells ≡ limit map / 2
+    pub copy-held : length m.lent.copy ≡ limit map / 2
 
   -- the address is refused for want of admission, or lies past the map; or it has a place
-  pub by_place {ℓ} : {X : Type ℓ} → ((f : Failure) → admitting ≡ Some f → X) → (admitting ≡ None → limit map ≤ a → X) → (admitting ≡ None → a < limit map → X)
-      → X
-  by_place f g h = by-option admitting (λ e. by_cases (leb (limit map) a) (λ t. g e (leb-true _ _ t)) (λ t. h e (leb-false _ _ t))) f
+  pub by_place {ℓ} : {X : Type ℓ} → ((f : Failure) → admitting map m ≡ Some f → X) → (admitting map m ≡ None → limit map ≤ a → X)
+      → (admitting map m ≡ None → a < limit map → X) → X
+  by_place f g h = by-option (admitting map m) (λ e. by_cases (leb (limit map) a) (λ t. g e (leb-true _ _ t)) (λ t. h e (leb-false _ _ t))) f
 
-  pub reached-at : (q : Place) → reached_of map admitting a ≡ Ok q → Located q
+  pub reached-at : (q : Place) → reached map m a ≡ Ok q → Located q
   reached-at q r =
       by_place (λ f e. let z = not-admitted f e in cc) (λ e h. let z = past-map e h in cc)
       (λ e h.
         let z = in_map e h in
-        let t = accepts map sizes k (admitted map sizes k phase e).0 in
+        let t = accepts map (sizes_of m.lent) m.lent.constants (admitted map (sizes_of m.lent) m.lent.constants m.session.phase e).0 in
         record { admitted-there = e; within = h; found = cc; cells-held = t.cells_right; copy-held = t.copy-right })
 
   -- the granule lies in cells and copy, the data words in the cells
   pub record Held (p : Partition) : Type 0 where
-    pub granule-in-cells : first_word p a + word_count p a ≤ sizes.cells
-    pub granule-in-copy : first_word p a + word_count p a ≤ sizes.copy
+    pub granule-in-cells : first_word p a + word_count p a ≤ length m.lent.cells
+    pub granule-in-copy : first_word p a + word_count p a ≤ length m.lent.copy
     pub few : word_count p a ≤ 4
     pub data-first : p.start / 2 ≤ p.digest / 2
-    pub data-in-cells : p.digest / 2 ≤ sizes.cells
+    pub data-in-cells : p.digest / 2 ≤ length m.lent.cells
 
-  pub held : fit map ≡ true → (q : Place) → reached_of map admitting a ≡ Ok q → Held q.partition
+  pub held : fit map ≡ true → (q : Place) → reached map m a ≡ Ok q → Held q.partition
   unfolding partition_at
   held fits q r =
       let l = reached-at q r in
@@ -108,3 +104,7 @@ module _ (map : Map) (sizes : Sizes) (k : List ℕ) (phase : Phase) (a : ℕ) wh
         data-first = omega (arith, f.data-first);
         data-in-cells = omega (arith, l.cells-held, f.digest-last);
       })
+
+pub ruleset places = (not-admitted, past-map, in_map)
+
+pub ruleset granules = (granule-slice)

@@ -29,3 +29,5 @@ module _ (map : Map) (m : Machine) (n : ℕ) where
         → record { machine = record { lent = m.lent; session = with_lock n m.session }; answer = Ok 0 } ≡ result_for map (ReadLock n) m
     unfolding command_act read_lock_act effect_on
     lock-done e = sym (admitted-result map (ReadLock n) m tt admitted ∙ ap (λ (t : Act). comes_to t m) (if-false _ _ (ap not e)) ∙ said m (Ok 0) (lock n))
+
+pub ruleset locks = (lock-stopped, lock-denied, lock-done)

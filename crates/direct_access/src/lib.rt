@@ -2,16 +2,16 @@
 #![tactic(auto)]
 
 ghost use Rattle.std.specs.Prelude.{◌≡◌, ◌+◌, ◌≤◌, length};
+ghost use Rattle.words.specs.Programming.{program_answer, program_cells};
 ghost use Rattle.partitions.specs.Map.{first_word, word_count};
 ghost use Rattle.partitions.specs.Maps.{map_of};
 ghost use Rattle.model.specs.declared.Command.{Command};
 ghost use Rattle.model.specs.Commands.{direct_rule, granule, write_denied, read_denied, front_read_denied, digest_denied, read_value};
-ghost use Rattle.chip.specs.Chip.{primitives, lent_of, Executes};
-ghost use Rattle.chip.specs.Judging.{admission};
-ghost use Rattle.direct_access.specs.Access.{reached_of, Answers};
+ghost use Rattle.chip.specs.Chip.{primitives, lent_of, machine_of, Executes};
+ghost use Rattle.direct_access.specs.Access.{reached, programmed_answer, Answers};
 
 use chip::{Chip, sizes_of};
-use model::{Answer, Failure, Outcome, Phase, Session, Sizes};
+use model::{Answer, Failure, Outcome, Session};
 use partitions::Partition;
 use words::Rule;
 
@@ -23,10 +23,11 @@ struct Place {
 }
 
 // What every command on an address tests first, in the paper's order: what is lent, the phase, the address.
-fn reach(chip: Chip<'_>, sizes: Sizes, phase: Phase, address: usize) -> Result<Place, Failure>
-    ensures { result ≡ reached_of (map_of chip.entry.map) (admission (map_of chip.entry.map) sizes chip.entry.constants.now phase) address }
+#[tactic(auto, using(crate::proofs::Places::places), unfolding(partitions::specs::Map::partition_at))]
+fn reach(chip: Chip<'_>, cells: &[u16], copy: &[u16], session: Session, address: usize) -> Result<Place, Failure>
+    ensures { result ≡ reached (map_of chip.entry.map) (machine_of (lent_of cells.now copy.now chip.entry.constants.now) session) address }
 {
-    chip.admit(sizes, phase)?;
+    chip.admit(sizes_of(cells, copy), session.phase)?;
     if chip.map.limit() <= address {
         return Err(Failure::Denied);
     }
@@ -74,7 +75,7 @@ fn digest_denied(locked: bool, partition: Partition, address: usize) -> bool
 }
 
 // The granule of an address, which lies in the words.
-#[tactic(auto, unfolding(model::specs::Commands::granule))]
+#[tactic(auto, using(crate::proofs::Places::granules))]
 fn granule(words: &[u16], partition: Partition, address: usize) -> u64
     requires { (first_word partition address + word_count partition address ≤ length words.now) × (word_count partition address ≤ 4) }
     ensures { result ≡ granule partition words.now address }
@@ -84,7 +85,7 @@ fn granule(words: &[u16], partition: Partition, address: usize) -> u64
 }
 
 // What a read answers: a digest plain, secret data unscrambled.
-#[tactic(auto, unfolding(model::specs::Commands::read_value))]
+#[tactic(auto, using(chip::proofs::Reading::choices), unfolding(model::specs::Commands::read_value))]
 fn read_value(chip: Chip<'_>, cells: &[u16], partition: Partition, address: usize) -> u64
     requires { (first_word partition address + word_count partition address ≤ length cells.now) × (word_count partition address ≤ 4) }
     ensures { result ≡ read_value primitives chip.entry.constants.now partition cells.now address }
@@ -98,7 +99,7 @@ fn read_value(chip: Chip<'_>, cells: &[u16], partition: Partition, address: usiz
 }
 
 // The rule of refusal for a write: the old one for data of a kind that keeps it, else the new one.
-#[tactic(auto, unfolding(model::specs::Commands::direct_rule))]
+#[tactic(auto, using(chip::proofs::Reading::choices), unfolding(model::specs::Commands::direct_rule))]
 fn rule_at(partition: Partition, address: usize) -> Rule
     ensures { result ≡ direct_rule partition address }
 {
@@ -109,12 +110,21 @@ fn rule_at(partition: Partition, address: usize) -> Rule
     }
 }
 
+// Programs words and answers a value, or names the cell that refuses.
+fn programmed(rule: Rule, cells: &mut [u16], at: usize, words: &[u16], value: u64) -> Answer
+    ensures answer { result ≡ programmed_answer (program_answer rule cells.old at words.now) value }
+    ensures words { cells.new ≡ program_cells rule cells.old at words.now }
+{
+    words::program(rule, cells, at, words).map_err(Failure::NotBlank)?;
+    Ok(value)
+}
+
 // The answer to a read.
 fn read_answer(chip: Chip<'_>, cells: &[u16], copy: &[u16], session: Session, address: usize) -> Answer
     ensures { Answers (map_of chip.entry.map) (Command.Read address) session (lent_of cells.now copy.now chip.entry.constants.now)
         (lent_of cells.now copy.now chip.entry.constants.now) result }
 {
-    let place = reach(chip, sizes_of(cells, copy), session.phase, address)?;
+    let place = reach(chip, cells, copy, session, address)?;
     let locked = session.sensed_locked(place.number);
     let read_locked = session.read_locked(place.number);
     if read_denied(locked, read_locked, place.partition, address) {
@@ -137,15 +147,14 @@ fn write_answer(chip: Chip<'_>, cells: &mut [u16], copy: &[u16], session: Sessio
     ensures { Answers (map_of chip.entry.map) (Command.Write address value) session (lent_of cells.old copy.now chip.entry.constants.now)
         (lent_of cells.new copy.now chip.entry.constants.now) result }
 {
-    let place = reach(chip, sizes_of(&cells[..], copy), session.phase, address)?;
+    let place = reach(chip, &cells[..], copy, session, address)?;
     if write_denied(session.sensed_locked(place.number), place.partition, address) {
         return Err(Failure::Denied);
     }
     let granule = place.partition.granule_at(address);
     let words = words::split(chip.scrambled(place.partition, value));
     let rule = rule_at(place.partition, address);
-    words::program(rule, cells, granule.word, &words[..granule.words]).map_err(Failure::NotBlank)?;
-    Ok(0)
+    programmed(rule, cells, granule.word, &words[..granule.words], 0)
 }
 
 // Write: programs the granule of an address, if its words take the value by the rule of the place; a 4-byte granule uses the low half of the value.
@@ -162,7 +171,7 @@ fn front_read_answer(chip: Chip<'_>, cells: &[u16], copy: &[u16], session: Sessi
     ensures { Answers (map_of chip.entry.map) (Command.FrontRead address) session (lent_of cells.now copy.now chip.entry.constants.now)
         (lent_of cells.now copy.now chip.entry.constants.now) result }
 {
-    let place = reach(chip, sizes_of(cells, copy), session.phase, address)?;
+    let place = reach(chip, cells, copy, session, address)?;
     if front_read_denied(place.partition, address) {
         return Err(Failure::Denied);
     }
@@ -183,14 +192,12 @@ fn digest_answer(chip: Chip<'_>, cells: &mut [u16], copy: &[u16], session: Sessi
     ensures { Answers (map_of chip.entry.map) (Command.Digest address) session (lent_of cells.old copy.now chip.entry.constants.now)
         (lent_of cells.new copy.now chip.entry.constants.now) result }
 {
-    let place = reach(chip, sizes_of(&cells[..], copy), session.phase, address)?;
+    let place = reach(chip, &cells[..], copy, session, address)?;
     if digest_denied(session.sensed_locked(place.number), place.partition, address) {
         return Err(Failure::Denied);
     }
     let value = chip.computed_digest(&cells[..], place.partition);
-    let words = words::split(value);
-    words::program(Rule::BlankOnly, cells, place.partition.digest / 2, &words).map_err(Failure::NotBlank)?;
-    Ok(value)
+    programmed(Rule::BlankOnly, cells, place.partition.digest / 2, &words::split(value), value)
 }
 
 // Digest: computed over the stored data words of the partition that starts at the address, programmed if its location is blank, and answered.
@@ -203,6 +210,7 @@ pub fn digest(chip: Chip<'_>, cells: &mut [u16], copy: &[u16], session: Session,
 }
 
 // Read lock: of a partition whose kind has one, until the next power-up.
+#[tactic(auto, using(crate::proofs::ReadLock::locks))]
 pub fn read_lock(chip: Chip<'_>, cells: &[u16], copy: &[u16], session: Session, partition: u8) -> Outcome
     ensures { Executes (map_of chip.entry.map) (Command.ReadLock partition) session (lent_of cells.now copy.now chip.entry.constants.now)
         (lent_of cells.now copy.now chip.entry.constants.now) result }
