@@ -126,6 +126,6 @@ compared =
 out-of-locked : Compared toy map1 (after toy map1 (PowerUp ∷ []) (off tested)) 0x71 true token.TestUnlock
     ⊎ Compared toy map1 (after toy map1 (PowerUp ∷ []) (off tested)) 0x71 true token.TestExit
 out-of-locked =
-    toy-claims.life_cycles.out_of_locked (after toy map1 (PowerUp ∷ []) (off tested)) 0 3 0 0x71 (lit< tt) (unfold everything tested in refl)
+    toy-claims.life_cycles.out_of_locked (after toy map1 (PowerUp ∷ []) (off tested)) 0 3 0x71 (lit< tt) (unfold everything tested in refl)
     (λ e. omega (arith, e))
     (unfold everything tested in refl)
