@@ -5,9 +5,8 @@ ghost use Rattle.std.specs.Prelude.{◌≡◌, ◌<◌};
 ghost use Rattle.life_cycle.specs.Words.{counter_word, counter_words, has_b, state_word, state_words, encoded_by, decoded};
 ghost use Rattle.life_cycle.specs.Transitions.{is_test, is_unlocked, is_locked, test_index, table_entry};
 
-use std::array;
-
 use constants::{FIRST_A, FIRST_B, FIRST_C, FIRST_D};
+use std::array;
 use words::word_at;
 
 // The states by their numbers. TEST_UNLOCKEDn is 2n + 1, TEST_LOCKEDn is 2n + 2.

@@ -20,5 +20,5 @@ returns c =
     let words = counter_words c.args.constants.now in
     let all = YieldsList-from_range {s = record { start = 0; end = 25 }} 0 25 25 refl refl in
     let found : option_map (λ x. x) c.find.result ≡ find (λ k. pointwise eqb ws (words k)) (range_with_len 0 25) =
-        find_from_yields_List (λ k. pointwise eqb ws (words k)) _ _ c.find.result c.find.ensures.ran all (λ x b q k. search (rules, tests)) in
+    find_from_yields_List (λ k. pointwise eqb ws (words k)) _ _ c.find.result c.find.ensures.ran all (λ x b q k. search (rules, tests)) in
     sym (option_map_id c.find.result) ∙ found ∙ find-encoded words ws 0 25
