@@ -9,9 +9,6 @@ use Rattle.basics.specs.Choice.{when◌then◌else◌}
 use Rattle.basics.proofs.Choice.{or_right}
 use Rattle.model.specs.declared.Command.TheVariants.{Read, Write, FrontRead, Digest, ReadLock, Transition, PowerUp}
 use Rattle.script.specs.Records.{unknown, body_length, byte_at, little_endian_at, command_at}
-use Rattle.script.specs.declared.RecordKind.{RecordKind}
-use Rattle.script.specs.declared.RecordKind.TheVariants as K
-use Rattle.script.specs.Kinds.{number_of_kind}
 
 -- ---- the bytes of no kind
 
@@ -81,7 +78,7 @@ module _ (s : List ℕ) (at : ℕ) where
   unfolding command_at when◌then◌else◌
   command-read_lock = refl
 
-  pub command-transition : command_at s 6 at ≡ Transition (byte_at s at) (little_endian_at s (at + 9) 8) (little_endian_at s (at + 1) 8)
+  pub command-transition : command_at s 6 at ≡ Transition (byte_at s at) (little_endian_at s (at + 1) 16)
   unfolding command_at when◌then◌else◌
   command-transition = refl
 

@@ -96,17 +96,9 @@ pub fn kind_of(command: Command) -> RecordKind
         Command::FrontRead(_) => RecordKind::FrontRead,
         Command::Digest(_) => RecordKind::Digest,
         Command::ReadLock(_) => RecordKind::ReadLock,
-        Command::Transition(_, _, _) => RecordKind::Transition,
+        Command::Transition(_, _) => RecordKind::Transition,
         Command::PowerUp => RecordKind::PowerUp,
     }
-}
-
-// The bytes from `at` on, as many as are asked for.
-pub fn bytes_at<const N: usize>(bytes: &[u8], at: usize) -> [u8; N]
-    requires { at + N ≤ length bytes.now }
-    ensures { result ≡ take N (drop at bytes.now) }
-{
-    *bytes[at..].first_chunk().unwrap()
 }
 
 #[tactic(auto, using(crate::proofs::Numbers::numbers))]
@@ -115,11 +107,11 @@ fn address_at(script: &[u8], at: usize) -> u32
     requires { at + 4 ≤ length script.now }
     ensures { result ≡ little_endian_at script.now at 4 }
 {
-    u32::from_le_bytes(bytes_at(script, at))
+    u32::from_le_bytes(*script[at..].first_chunk().unwrap())
 }
 
 #[tactic(auto, using(crate::proofs::Numbers::numbers, crate::proofs::RecordKinds::commands, crate::proofs::RecordKinds::body_lengths))]
-// The command of a kind whose body stands at `at`. The low half of a token comes first.
+// The command of a kind whose body stands at `at`.
 fn command_at(script: &[u8], kind: RecordKind, at: usize) -> Command
     requires { at + body_length (number_of_kind kind) ≤ length script.now }
     ensures { result ≡ command_at script.now (number_of_kind kind) at }
@@ -129,18 +121,14 @@ fn command_at(script: &[u8], kind: RecordKind, at: usize) -> Command
         RecordKind::Write => {
             Command::Write(
                 address_at(script, at),
-                u64::from_le_bytes(bytes_at(script, at + 4)),
+                u64::from_le_bytes(*script[at + 4..].first_chunk().unwrap()),
             )
         }
         RecordKind::FrontRead => Command::FrontRead(address_at(script, at)),
         RecordKind::Digest => Command::Digest(address_at(script, at)),
         RecordKind::ReadLock => Command::ReadLock(script[at]),
         RecordKind::Transition => {
-            Command::Transition(
-                script[at],
-                u64::from_le_bytes(bytes_at(script, at + 9)),
-                u64::from_le_bytes(bytes_at(script, at + 1)),
-            )
+            Command::Transition(script[at], u128::from_le_bytes(*script[at + 1..].first_chunk().unwrap()))
         }
         RecordKind::PowerUp => Command::PowerUp,
     }
