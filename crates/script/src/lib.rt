@@ -5,9 +5,10 @@ ghost use Rattle.std.specs.Prelude.{◌≡◌, ◌+◌, ◌≤◌, ◌<◌, true
 ghost use Rattle.script.specs.Kinds.{number_of_kind, GivesKind};
 ghost use Rattle.script.specs.Records.{kind_of, unknown, body_length, little_endian_at, command_at, refusal_code, next_at, place_after};
 ghost use Rattle.script.specs.Reader.{reader_next, advanced_reader};
-ghost use Rattle.script.specs.Lines.{digit_byte, digits, line_of, decimal, end_line_of};
+ghost use Rattle.script.specs.Lines.{digit_byte, digits, line_of, decimal, end_line};
 
 use model::Command;
+use std::marker::Model;
 
 // The kinds of records, each with its number.
 #[derive(Clone, Copy, PartialEq, Eq, Debug)]
@@ -101,13 +102,21 @@ pub fn kind_of(command: Command) -> RecordKind
     }
 }
 
+// The bytes from `at` on, as many as are asked for.
+fn bytes_at<const N: usize>(script: &[u8], at: usize) -> [u8; N]
+    requires { at + N ≤ length script.now }
+    ensures { result ≡ take N (drop at script.now) }
+{
+    *script[at..].first_chunk().unwrap()
+}
+
 #[tactic(auto, using(crate::proofs::Numbers::numbers))]
 // The address that stands at `at`.
 fn address_at(script: &[u8], at: usize) -> u32
     requires { at + 4 ≤ length script.now }
     ensures { result ≡ little_endian_at script.now at 4 }
 {
-    u32::from_le_bytes(*script[at..].first_chunk().unwrap())
+    u32::from_le_bytes(bytes_at(script, at))
 }
 
 #[tactic(auto, using(crate::proofs::Numbers::numbers, crate::proofs::RecordKinds::commands, crate::proofs::RecordKinds::body_lengths))]
@@ -121,14 +130,14 @@ fn command_at(script: &[u8], kind: RecordKind, at: usize) -> Command
         RecordKind::Write => {
             Command::Write(
                 address_at(script, at),
-                u64::from_le_bytes(*script[at + 4..].first_chunk().unwrap()),
+                u64::from_le_bytes(bytes_at(script, at + 4)),
             )
         }
         RecordKind::FrontRead => Command::FrontRead(address_at(script, at)),
         RecordKind::Digest => Command::Digest(address_at(script, at)),
         RecordKind::ReadLock => Command::ReadLock(script[at]),
         RecordKind::Transition => {
-            Command::Transition(script[at], u128::from_le_bytes(*script[at + 1..].first_chunk().unwrap()))
+            Command::Transition(script[at], u128::from_le_bytes(bytes_at(script, at + 1)))
         }
         RecordKind::PowerUp => Command::PowerUp,
     }
@@ -211,24 +220,25 @@ pub fn read_at(script: &[u8], place: usize) -> Reading
     Reader { script, place }.next()
 }
 
+#[tactic(auto, using(crate::proofs::Digits::digit_bytes))]
 // The byte of a digit: 0 to 9, then a to f.
 fn digit_byte(digit: u64) -> u8
     requires { digit < 16 }
     ensures { result ≡ digit_byte digit }
 {
-    let d = digit as u8;
-    if d < 10 { b'0' + d } else { b'a' + (d - 10) }
+    let digit = digit as u8;
+    if digit < 10 { b'0' + digit } else { b'a' + (digit - 10) }
 }
 
 // Writes the lowest digits of x over a part, the highest first, as many as fit.
+// Kept (proof): `write!` says what it wrote only where it answers `Ok`, which nothing promises, and a line can't fail.
 fn put_digits(part: &mut [u8], base: u64, x: u64)
     requires { (0 < base) × (base ≤ 16) }
     ensures { part.new ≡ digits base (length part.old) x }
 {
-    let mut i = part.len();
     let mut rest = x;
-    while 0 < i {
-        i -= 1;
+    // Kept (proof): after a loop over `part.iter_mut().rev()` a proof knows no element.
+    for i in (0..part.len()).rev() {
         part[i] = digit_byte(rest % base);
         rest /= base;
     }
@@ -239,43 +249,64 @@ pub fn line(kind: u8, code: u8, value: u64) -> [u8; 23]
     ensures { result ≡ line_of kind code value }
 {
     let mut line = [b' '; 23];
-    put_digits(&mut line[0..2], 16, kind as u64);
-    put_digits(&mut line[3..5], 16, code as u64);
+    put_digits(&mut line[0..2], 16, u64::from(kind));
+    put_digits(&mut line[3..5], 16, u64::from(code));
     put_digits(&mut line[6..22], 16, value);
     line[22] = b'\n';
     line
 }
 
+#[tactic(auto, using(crate::proofs::Decimal::decimal_lengths))]
 // How many decimal digits a number has.
 fn decimal_length(x: u64) -> usize
     ensures { result ≡ length (decimal 20 x) }
 {
-    let mut n = 1;
-    let mut rest = x;
-    while 10 <= rest {
-        rest /= 10;
-        n += 1;
-    }
-    n
+    x.checked_ilog10().map_or(1, |power| power as usize + 1)
 }
 
-// The end line: its bytes come first, then zeros.
+// The end line, with space for the longest: zeros behind its bytes.
 #[derive(Clone, Copy)]
 pub struct EndLine {
-    pub bytes: [u8; 25],
-    pub len: usize,
+    bytes: [u8; 25],
+    len: usize,
+}
+
+// Clauses see its bytes.
+impl Model for EndLine {
+    ghost use Rattle.std.specs.Prelude.{◌≡◌, ℕ, ◌-◌, ◌≤◌, List, ◌++◌, length, take, replicate};
+    ghost use Rattle.std.proofs.Common.{arith, length-take-le};
+
+    ghost Value = { List ℕ };
+
+    ghost view = { λ line. take line.len line.bytes };
+
+    ghost invariant = { λ line. (line.len ≤ 25) × (length line.bytes ≡ 25)
+        × (take line.len line.bytes ++ replicate (25 - line.len) 0 ≡ line.bytes) };
+
+    ghost inverse = { λ bytes. record { bytes = bytes ++ replicate (25 - length bytes) 0; len = length bytes } };
+
+    ghost inverse_ok = { λ line h i.
+        let long = length-take-le line.len line.bytes (omega (arith, h.0, h.1)) in
+        let whole : take line.len line.bytes ++ replicate (25 - length (take line.len line.bytes)) 0 ≡ line.bytes = rw long h.2 in
+        record { bytes = whole i; len = long i } };
+}
+
+impl EndLine {
+    // Its bytes.
+    pub fn as_bytes(&self) -> &[u8]
+        ensures { result.now ≡ self.now }
+    {
+        &self.bytes[..self.len]
+    }
 }
 
 // The end line of a count of lines.
 pub fn end_line(count: u64) -> EndLine
-    ensures { result ≡ end_line_of count }
+    ensures { result ≡ end_line count }
 {
-    let mut bytes = [0u8; 25];
-    bytes[0] = b'e';
-    bytes[1] = b'n';
-    bytes[2] = b'd';
-    bytes[3] = b' ';
+    let mut bytes = [0; 25];
     let end = 4 + decimal_length(count);
+    bytes[..4].copy_from_slice(b"end ");
     put_digits(&mut bytes[4..end], 10, count);
     bytes[end] = b'\n';
     EndLine {
