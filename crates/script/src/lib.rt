@@ -72,8 +72,8 @@ impl TryFrom<u8> for RecordKind {
 }
 
 impl RecordKind {
-    #[tactic(auto, using(crate::proofs::RecordKinds::body_lengths))]
     // How many bytes follow it.
+    #[tactic(auto, using(crate::proofs::RecordKinds::body_lengths))]
     fn body_length(self) -> usize
         ensures { result ≡ body_length (number_of_kind self) }
     {
@@ -110,8 +110,8 @@ fn bytes_at<const N: usize>(script: &[u8], at: usize) -> [u8; N]
     *script[at..].first_chunk().unwrap()
 }
 
-#[tactic(auto, using(crate::proofs::Numbers::numbers))]
 // The address that stands at `at`.
+#[tactic(auto, using(crate::proofs::Numbers::numbers))]
 fn address_at(script: &[u8], at: usize) -> u32
     requires { at + 4 ≤ length script.now }
     ensures { result ≡ little_endian_at script.now at 4 }
@@ -119,8 +119,8 @@ fn address_at(script: &[u8], at: usize) -> u32
     u32::from_le_bytes(bytes_at(script, at))
 }
 
-#[tactic(auto, using(crate::proofs::Numbers::numbers, crate::proofs::RecordKinds::commands, crate::proofs::RecordKinds::body_lengths))]
 // The command of a kind whose body stands at `at`.
+#[tactic(auto, using(crate::proofs::Numbers::numbers, crate::proofs::RecordKinds::commands, crate::proofs::RecordKinds::body_lengths))]
 fn command_at(script: &[u8], kind: RecordKind, at: usize) -> Command
     requires { at + body_length (number_of_kind kind) ≤ length script.now }
     ensures { result ≡ command_at script.now (number_of_kind kind) at }
@@ -143,8 +143,8 @@ fn command_at(script: &[u8], kind: RecordKind, at: usize) -> Command
     }
 }
 
-#[tactic(auto, using(crate::proofs::Records::inside_tests))]
 // The command of the record at a place, and the place after it.
+#[tactic(auto, using(crate::proofs::Records::inside_tests))]
 fn record_at(script: &[u8], place: usize) -> Result<(Command, usize), Refusal>
     requires short { length script.now ≤ LONGEST }
     requires inside { place < length script.now }
@@ -159,8 +159,8 @@ fn record_at(script: &[u8], place: usize) -> Result<(Command, usize), Refusal>
     Ok((command_at(script, kind, place + 1), next))
 }
 
-#[tactic(auto, using(crate::proofs::Records::outside))]
 // What stands at a place of a script.
+#[tactic(auto, using(crate::proofs::Records::outside))]
 fn next_at(script: &[u8], place: usize) -> Reading
     ensures { result ≡ next_at script.now place }
 {
@@ -187,6 +187,7 @@ fn place_after(script: &[u8], place: usize) -> usize
 }
 
 // A script and a place in it.
+// Kept (fixed): no `Iterator`, since "a refusal doesn't move the place" (`place_after`): its `next` would give the same refusal without end.
 #[derive(Clone, Copy)]
 pub struct Reader<'a> {
     pub script: &'a [u8],
@@ -205,23 +206,23 @@ impl<'a> Reader<'a> {
     pub fn advanced(self) -> Reader<'a>
         ensures { result ≡ advanced_reader self.entry }
     {
-        let place = place_after(self.script, self.place);
         Reader {
-            script: self.script,
-            place,
+            place: place_after(self.script, self.place),
+            ..self
         }
     }
 }
 
-// What a reader at a place of a script answers. Its parameters are plain, so that the checker itself proves callers.
+// What a reader at a place of a script answers.
+// Kept (fixed): docs/ name it as the one way of reading; its promise is its own (edit `read_at_the_start`).
 pub fn read_at(script: &[u8], place: usize) -> Reading
     ensures { result ≡ next_at script.now place }
 {
     Reader { script, place }.next()
 }
 
-#[tactic(auto, using(crate::proofs::Digits::digit_bytes))]
 // The byte of a digit: 0 to 9, then a to f.
+#[tactic(auto, using(crate::proofs::Digits::digit_bytes))]
 fn digit_byte(digit: u64) -> u8
     requires { digit < 16 }
     ensures { result ≡ digit_byte digit }
@@ -256,10 +257,11 @@ pub fn line(kind: u8, code: u8, value: u64) -> [u8; 23]
     line
 }
 
-#[tactic(auto, using(crate::proofs::Decimal::decimal_lengths))]
 // How many decimal digits a number has.
+#[tactic(auto, using(crate::proofs::Decimal::decimal_lengths))]
 fn decimal_length(x: u64) -> usize
-    ensures { result ≡ length (decimal 20 x) }
+    ensures length { result ≡ length (decimal 20 x) }
+    ensures few { result ≤ 20 }
 {
     x.checked_ilog10().map_or(1, |power| power as usize + 1)
 }
