@@ -1,8 +1,8 @@
 -- Laws of the numbers in a script, over their width. The ideas: a number of m + n bytes is one of m bytes and, above it, one of n bytes; and the library's
 -- number of some bytes is the sum that `little_endian_at` takes.
-use mathlib.Core.Path.{◌≡◌, refl, sym, ap₂, ap, ◌∙◌}
+use mathlib.Core.Path.{◌≡◌, refl, sym, ap, ◌∙◌}
 use mathlib.Core.List.{List}
-use Prim.Native.Nat.{ℕ, zero, suc, ◌+◌, ◌*◌, ◌^◌, ◌<◌}
+use Prim.Native.Nat.{ℕ, zero, suc, ◌+◌, ◌*◌, ◌^◌}
 use native.Mathlib.Nat.{add-zero, add-suc, mul-zero, mul-add, mul_left_comm}
 use native.Mathlib.Omega.{arith}
 use lib.ListN.{get_or, take, drop}

@@ -228,7 +228,11 @@ fn digit_byte(digit: u64) -> u8
     ensures { result ≡ digit_byte digit }
 {
     let digit = digit as u8;
-    if digit < 10 { b'0' + digit } else { b'a' + (digit - 10) }
+    if digit < 10 {
+        b'0' + digit
+    } else {
+        b'a' + (digit - 10)
+    }
 }
 
 // Writes the lowest digits of x over a part, the highest first, as many as fit.
