@@ -133,7 +133,7 @@ not-zero z = omega arith
 
 not-old : direct_rule (partition_at map1 0x003) 0x003 ≡ KeepBits → ⊥
 unfolding everything
-not-old e = let z : ◌≡◌ {A = ℕ} 0 1 = cc in omega arith
+not-old e = cc
 
 reads_on : answer_to toy map1 (Read 0x001) (after toy map1 passing wrote) ≡ Ok 0x55
 unfolding everything passing wrote
