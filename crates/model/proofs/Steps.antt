@@ -109,8 +109,8 @@ module _ (prims : Primitives) (map : Map) where
       (λ failure f. rw (refused-step x m failure f, refused-step x n failure (e ∙ f)) (u failure))
 
   -- what holds where what is lent is refused, with 0x10 or 0x12, and of the command obeyed
-  pub step_both : (Q : Step → Type 0) (x : Command) (m : Machine) → ((failure : Failure) → judgement_code (code_of (Err failure)) ≡ true → Q (unchanged failure m))
-      → Q (obey prims map x m) → Q (step prims map x m)
+  pub step_both : (Q : Step → Type 0) (x : Command) (m : Machine)
+      → ((failure : Failure) → judgement_code (code_of (Err failure)) ≡ true → Q (unchanged failure m)) → Q (obey prims map x m) → Q (step prims map x m)
   step_both Q x m u h = step-judged Q x m (λ e. u WrongLength refl) (λ e v. u InvalidConstants refl) (λ e v. h)
 
   -- what holds there, of a power-up and of an act holds of every command

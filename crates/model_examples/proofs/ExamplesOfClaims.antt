@@ -119,7 +119,8 @@ unbounded = refl
 
 -- ---- read locks: partition 0 is locked, and a read of its data answers 5 after a write
 
-shut : answer_to toy map1 (Read 0) (after toy map1 (Write 4 1 ∷ []) (machine_after toy map1 (ReadLock 0) (after toy map1 (PowerUp ∷ []) (off blank)))) ≡ Err Denied
+shut : answer_to toy map1 (Read 0) (after toy map1 (Write 4 1 ∷ []) (machine_after toy map1 (ReadLock 0) (after toy map1 (PowerUp ∷ []) (off blank))))
+    ≡ Err Denied
 unfolding everything
 shut = toy-claims.read_locks.lasts (off blank) (right blank refl) [] 0 refl (Write 4 1 ∷ []) (tt, tt) 0 refl (lit< tt)
 
