@@ -1,11 +1,19 @@
 -- Laws of valid constants. The idea: the test passes at each pair, and the parts of a passed test are what a pair is known for.
-use mathlib.Core.Path.{◌≡◌, sym, ◌∙◌}
-use mathlib.Core.Bool.{Bool, true, false, not}
-use mathlib.Core.List.{List}
-use Prim.Native.Nat.{ℕ, ◌<◌}
+use mathlib.Core.Path.{◌≡◌, refl, sym, ap, ◌∙◌}
+use mathlib.Core.Bool.{Bool, true, false, not, ◌&&◌}
+use mathlib.Core.List.{List, [], ◌∷◌, ◌++◌, map}
+use Prim.Native.Nat.{ℕ, zero, suc, ◌+◌, ◌<◌}
+use native.Mathlib.Nat.{zero-add}
+use native.Mathlib.Numerals.{add-one}
 use lib.Bits.{bit_or, or_zero_r}
 use lib.Dec.{eqb}
 use borrow.Author.Tests.{eqb-false, eq-eqb, ne_eqb, not-true}
+use Rattle.std.proofs.Math.Bool.{and_comm}
+use Rattle.std.proofs.lemmas.List.{map-id}
+use Rattle.std.proofs.lemmas.List.FromFn.{map-range_with_len_more}
+use Rattle.std.proofs.lemmas.List.Sums.{fold-append}
+use Rattle.std.specs.Prelude.{fold}
+use Rattle.std.specs.List.{range_with_len}
 use Rattle.basics.specs.Range.{all_below}
 use Rattle.basics.proofs.Choice.{by_cases, true-not-false, to-T, and_left, and_right, and-three}
 use Rattle.basics.proofs.Range.{all-at}
@@ -47,3 +55,18 @@ module _ (constants : List ℕ) (valid : valid_constants constants ≡ true) whe
       let first : ℕ → Bool = λ i. pair_valid (const_c constants i) (const_d constants i) in
       let test : ℕ → Bool = λ i. pair_valid (const_a constants i) (const_b constants i) in
       pair _ _ (all-at 20 test (to-T (and_right (all_below 24 first) _ valid)) i h)
+
+-- a test at every number below n, as code folds it
+pub fold-below : (n : ℕ) (test : ℕ → Bool) → fold (λ (passed : Bool) (i : ℕ). passed && test i) true (range_with_len 0 n) ≡ all_below n test
+unfolding all_below
+fold-below zero test = refl
+fold-below (suc n) test =
+    ap (fold (λ (passed : Bool) (i : ℕ). passed && test i) true) more
+    ∙ fold-append (λ (passed : Bool) (i : ℕ). passed && test i) true (range_with_len 0 n) (n ∷ [])
+    ∙ ap (λ (passed : Bool). passed && test n) (fold-below n test)
+    ∙ and_comm (all_below n test) (test n)
+  where
+    more : range_with_len 0 (suc n) ≡ range_with_len 0 n ++ n ∷ []
+    more =
+        sym (map-id (range_with_len 0 (suc n))) ∙ ap (λ (k : ℕ). map (λ (x : ℕ). x) (range_with_len 0 k)) (sym (add-one n))
+        ∙ map-range_with_len_more (λ (x : ℕ). x) 0 n n (zero-add n) ∙ ap (λ (xs : List ℕ). xs ++ n ∷ []) (map-id (range_with_len 0 n))

@@ -37,22 +37,19 @@ pub const RAW_UNLOCK_HASH: usize = 124;
 fn pair_valid(low: u16, up: u16) -> bool
     ensures { result ≡ pair_valid low up }
 {
-    let joined = low | up;
-    (low != 0) & (low != up) & (joined == up)
+    (low != 0) & (low != up) & ((low | up) == up)
 }
 
 // The n lower constants from `low` on and their upper ones from `up` on are valid pairs. No early return: it runs faster so.
 fn pairs_valid(constants: &[u16], low: usize, up: usize, n: usize) -> bool
-    requires { (low + n < 1000) × (up + n < 1000) }
+    requires lower { low + n < 1000 }
+    requires upper { up + n < 1000 }
     ensures { result ≡ all_below n (λ i. pair_valid (get_or constants.now (low + i) 0) (get_or constants.now (up + i) 0)) }
 {
-    let mut valid = true;
-    let mut i = 0;
-    while i < n {
-        valid = pair_valid(word_at(constants, low + i), word_at(constants, up + i)) & valid;
-        i += 1;
-    }
-    valid
+    (0..n).fold(
+        true,
+        |valid, i| valid & pair_valid(word_at(constants, low + i), word_at(constants, up + i)),
+    )
 }
 
 // All pairs of the life cycle's constants are valid.

@@ -1,62 +1,58 @@
--- Laws of numbers in bytes. The idea: byte i of a number is what is left above the bytes before it, modulo 256.
-use Prim.Native.Nat.{ℕ, zero, suc, ◌+◌, ◌*◌, ◌/◌, ◌%◌, ◌^◌, ◌≤◌, ◌<◌}
-use mathlib.Core.Path.{◌≡◌, refl, sym, ap, ◌∙◌}
+-- Laws of numbers in bytes. The idea: what the library says of its bytes of a number is said byte by byte, as the definitions say it.
+use Prim.Native.Nat.{ℕ, zero, suc, ◌+◌, ◌*◌, ◌≤◌, ◌<◌}
+use mathlib.Core.Path.{◌≡◌, refl, ap, ap₂, sym, ◌∙◌}
 use mathlib.Core.List.{List, [], ◌∷◌, ◌++◌, append_assoc, append-nil}
-use native.Mathlib.Nat.{add-zero, pow-suc, div-div-eq-div-mul, mul-suc}
+use native.Mathlib.Nat.{add_comm, mul-suc}
 use native.Mathlib.Numerals.{add-one}
 use native.Mathlib.Omega.{arith}
-use lib.ListN.{length, get_or, set, take, drop, replicate, length-append, length-replicate, drop_of_length-le}
-use lib.Seq.{take_all, take-suc, take_at, drop_at, drop-drop, length-take-le}
+use lib.ListN.{length, get_or, take, drop, length-append, length-replicate}
+use lib.Seq.{take-suc, take_at, drop_at, drop-drop, length-take-le}
+use Rattle.std.specs.Int.{Width, to_le_bytes, byte_len, bytes_low_first, sum_through, byte_worth}
+use Rattle.std.specs.Int.{byte_at as low_byte_at}
+use Rattle.std.specs.List.{flat_map}
+use Rattle.std.proofs.lemmas.List.{get_or-take, get_or-drop}
 use Rattle.basics.specs.Range.{listed, sum}
 use Rattle.basics.specs.Digits.{digit}
 use Rattle.basics.proofs.Range.{length-listed}
-use Rattle.basics.proofs.Filling.{filled_more}
 use Rattle.script.specs.Records.{byte_at, little_endian_at}
-use Rattle.script.proofs.Numbers.{four_bytes, eight-bytes}
 use Rattle.frames.specs.Bytes.{bytes_of, all_bytes, zeros}
 
 -- ---- numbers read
 
-pub two_bytes : (s : List ℕ) (at : ℕ) → little_endian_at s at 2 ≡ byte_at s at + 256 * byte_at s (at + 1)
+through : (s b : List ℕ) (at k : ℕ) → ((i : ℕ) → i ≤ k → get_or b i 0 ≡ byte_at s (at + i))
+    → sum_through (λ i. byte_worth i (get_or b i 0)) k ≡ little_endian_at s at (suc k)
 unfolding little_endian_at sum
-two_bytes s at = rw (add-zero at) (omega arith)
+through s b at zero h = omega (arith, h 0 (omega arith))
+through s b at (suc k) h = rw (through s b at k (λ i l. h i (omega arith)), h (suc k) (omega arith)) (add_comm _ _)
 
-two-words : (s : List ℕ) (at : ℕ) → little_endian_at s at 4 ≡ little_endian_at s at 2 + 65536 * little_endian_at s (at + 2) 2
-two-words s at =
-    let e : byte_at s (at + 2 + 1) ≡ byte_at s (at + 3) = ap (byte_at s) (omega arith) in
-    omega (arith, e, four_bytes s at, two_bytes s at, two_bytes s (at + 2))
+-- the number of the suc k bytes from a place on
+pub read : (s : List ℕ) (at k : ℕ) (b : List ℕ) → b ≡ take (suc k) (drop at s)
+    → sum_through (λ i. byte_worth i (get_or b i 0)) k ≡ little_endian_at s at (suc k)
+read s at k b e =
+    through s b at k (λ i l. ap (λ (c : List ℕ). get_or c i 0) e ∙ get_or-take (suc k) (drop at s) i 0 (omega arith) ∙ get_or-drop at s i 0)
 
-pub four-words : (s : List ℕ) (at : ℕ)
-    → little_endian_at s at 8
-    ≡ little_endian_at s at 2 + 65536 * little_endian_at s (at + 2) 2 + 4294967296 * little_endian_at s (at + 4) 2
-    + 281474976710656 * little_endian_at s (at + 6) 2
-four-words s at =
-    let e : little_endian_at s (at + 4 + 2) 2 ≡ little_endian_at s (at + 6) 2 = ap (λ (k : ℕ). little_endian_at s k 2) (omega arith) in
-    omega (arith, e, eight-bytes s at, two-words s at, two-words s (at + 4))
+-- ---- the bytes of a number
 
--- ---- zeros
+low_byte : (i x : ℕ) → low_byte_at i x ≡ digit 256 x i
+low_byte zero x = omega arith
+low_byte (suc i) x = refl
 
-from : (i n : ℕ) → replicate {A = ℕ} n 0 ≡ listed (λ j. 0) i n
+low-first : (x i k : ℕ) → bytes_low_first i k x ≡ listed (digit 256 x) i k
 unfolding listed
-from i zero = refl
-from i (suc n) = ap (λ (l : List ℕ). 0 ∷ l) (from (suc i) n)
+low-first x i zero = refl
+low-first x i (suc k) = ap₂ (λ (b : ℕ) (l : List ℕ). b ∷ l) (low_byte i x) (low-first x (suc i) k)
 
-pub zeros-listed : (n : ℕ) → zeros n ≡ listed (λ j. 0) 0 n
-unfolding zeros
-zeros-listed n = from 0 n
-
-pub zeros-length : (n : ℕ) → length (zeros n) ≡ n
-unfolding zeros
-zeros-length n = length-replicate n 0
-
--- ---- the bytes of a number, one after the other
-
-pub rest_more : (x i rest : ℕ) → rest ≡ x / 256 ^ i → rest / 256 ≡ x / 256 ^ (i + 1)
-rest_more x i rest e = rw (e, add-one, pow-suc) (div-div-eq-div-mul x (256 ^ i) 256)
+pub written : (w : Width) (x : ℕ) → to_le_bytes w x ≡ bytes_of (byte_len w) x
+unfolding bytes_of
+written w x = low-first x 0 (byte_len w)
 
 pub bytes-length : (width x : ℕ) → length (bytes_of width x) ≡ width
 unfolding bytes_of
 bytes-length width x = length-listed (digit 256 x) 0 width
+
+pub zeros-length : (n : ℕ) → length (zeros n) ≡ n
+unfolding zeros
+zeros-length n = length-replicate n 0
 
 -- ---- those of numbers
 
@@ -66,69 +62,35 @@ all-length width [] = omega arith
 all-length width (x ∷ xs) =
     omega (arith, length-append (bytes_of width x) (all_bytes width xs), bytes-length width x, all-length width xs, mul-suc width (length xs))
 
-pub all_append : (width : ℕ) (xs ys : List ℕ) → all_bytes width (xs ++ ys) ≡ all_bytes width xs ++ all_bytes width ys
+all_append : (width : ℕ) (xs ys : List ℕ) → all_bytes width (xs ++ ys) ≡ all_bytes width xs ++ all_bytes width ys
 unfolding all_bytes
 all_append width [] ys = refl
 all_append width (x ∷ xs) ys =
     ap (λ (l : List ℕ). bytes_of width x ++ l) (all_append width xs ys) ∙ sym (append_assoc (bytes_of width x) (all_bytes width xs) (all_bytes width ys))
 
--- ---- loops that store them
-
--- the loop's end: all of the other list
-pub filled-all : (old new : List ℕ) (i : ℕ) → length new ≡ length old → length old ≤ i → take i new ++ drop i old ≡ new
-filled-all old new i e h = rw (take_all i new (omega arith), drop_of_length-le old {i = i} h) (append-nil new)
-
--- the bytes of a digest after those of the digests before it
-module _ (old xs : List ℕ) (i : ℕ) (size : length old ≡ 80) (ten : length xs ≡ 10) where
-  abbrev Stored : ℕ → List ℕ
-  Stored n = all_bytes 8 (take n xs) ++ drop (8 * n) old
-
-  front : i ≤ 10 → length (all_bytes 8 (take i xs)) ≡ 8 * i
-  front h = omega (arith, all-length 8 (take i xs), length-take-le i xs (omega arith))
-
-  pub digests-more : i < 10 → (part : List ℕ) → part ≡ bytes_of 8 (get_or xs i 0)
-      → take (8 * i) (Stored i) ++ (part ++ drop 8 (drop (8 * i) (Stored i))) ≡ Stored (i + 1)
-  unfolding all_bytes
-  digests-more h part e =
-      let a = all_bytes 8 (take i xs) in
-      let b = bytes_of 8 (get_or xs i 0) in
-      let f = front (omega arith) in
-      let n : 8 * (i + 1) ≡ 8 * i + 8 = omega arith in
-      let one : all_bytes 8 (take (i + 1) xs) ≡ a ++ b =
-      rw (add-one i, take-suc xs i 0 (omega arith), all_append 8 (take i xs) (get_or xs i 0 ∷ []), append-nil b) refl in
-      rw (take_at a (drop (8 * i) old) (8 * i) f, drop_at a (drop (8 * i) old) (8 * i) f, drop-drop 8 (8 * i) old, e, one, n)
-      (sym (append_assoc a b (drop (8 * i + 8) old)))
-
--- ---- the bytes of words
-
-pub word_low : (words : List ℕ) (i : ℕ) → i < length words → get_or (all_bytes 2 words) (2 * i) 0 ≡ get_or words i 0 % 256
-unfolding all_bytes bytes_of listed
-word_low [] i h = absurd (omega arith)
-word_low (w ∷ words) zero h = omega arith
-word_low (w ∷ words) (suc i) h =
-    let e : 2 * suc i ≡ suc (suc (2 * i)) = omega arith in
-    rw e (word_low words i (omega arith))
-
-pub word-high : (words : List ℕ) (i : ℕ) → i < length words → get_or (all_bytes 2 words) (2 * i + 1) 0 ≡ get_or words i 0 / 256 % 256
-unfolding all_bytes bytes_of listed
-word-high [] i h = absurd (omega arith)
-word-high (w ∷ words) zero h = refl
-word-high (w ∷ words) (suc i) h =
-    let e : 2 * suc i + 1 ≡ suc (suc (2 * i + 1)) = omega arith in
-    rw e (word-high words i (omega arith))
+-- a list of the bytes of each number, in one piece
+pub flattened : (xs : List ℕ) (ys : List (List ℕ)) → length ys ≡ length xs → ((i : ℕ) → i < length xs → get_or ys i [] ≡ bytes_of 8 (get_or xs i 0))
+    → flat_map (λ x. x) ys ≡ all_bytes 8 xs
+unfolding all_bytes
+flattened [] [] e h = refl
+flattened [] (y ∷ ys) e h = absurd (omega arith)
+flattened (x ∷ xs) [] e h = absurd (omega arith)
+flattened (x ∷ xs) (y ∷ ys) e h = ap₂ (λ (a b : List ℕ). a ++ b) (h 0 (omega arith)) (flattened xs ys (omega arith) (λ i l. h (suc i) (omega arith)))
 
 -- a loop stores the two bytes of a word after those of the words before it
 module _ (old words : List ℕ) (i : ℕ) (size : length old ≡ 2 * length words) where
-  abbrev Filled : ℕ → List ℕ
-  Filled n = take n (all_bytes 2 words) ++ drop n old
+  abbrev Stored : ℕ → List ℕ
+  Stored n = all_bytes 2 (take n words) ++ drop (2 * n) old
 
-  pub words_more : i < length words
-      → set (set (Filled (2 * i)) (2 * i) (get_or words i 0 % 256)) (2 * i + 1) (get_or words i 0 / 256 % 256) ≡ Filled (2 * (i + 1))
-  words_more h =
-      let l = all-length 2 words in
-      let n : 2 * (i + 1) ≡ 2 * i + 1 + 1 = omega arith in
-      rw (n, ← word_low words i h, ← word-high words i h, filled_more old (all_bytes 2 words) (2 * i) (omega arith) (omega arith))
-      (filled_more old (all_bytes 2 words) (2 * i + 1) (omega arith) (omega arith))
-
-  pub words-all : length words ≤ i → Filled (2 * i) ≡ all_bytes 2 words
-  words-all h = let l = all-length 2 words in filled-all old (all_bytes 2 words) (2 * i) (omega arith) (omega arith)
+  pub stored-more : i < length words → (part : List ℕ) → part ≡ bytes_of 2 (get_or words i 0)
+      → take (2 * i) (Stored i) ++ (part ++ drop 2 (drop (2 * i) (Stored i))) ≡ Stored (i + 1)
+  unfolding all_bytes
+  stored-more h part e =
+      let a = all_bytes 2 (take i words) in
+      let b = bytes_of 2 (get_or words i 0) in
+      let f : length a ≡ 2 * i = omega (arith, all-length 2 (take i words), length-take-le i words (omega arith)) in
+      let n : 2 * (i + 1) ≡ 2 * i + 2 = omega arith in
+      let one : all_bytes 2 (take (i + 1) words) ≡ a ++ b =
+      rw (add-one i, take-suc words i 0 h, all_append 2 (take i words) (get_or words i 0 ∷ []), append-nil b) refl in
+      rw (take_at a (drop (2 * i) old) (2 * i) f, drop_at a (drop (2 * i) old) (2 * i) f, drop-drop 2 (2 * i) old, e, one, n)
+      (sym (append_assoc a b (drop (2 * i + 2) old)))

@@ -1,10 +1,12 @@
 -- Laws of the bytes of read locks.
-use Prim.Native.Nat.{ℕ, zero, suc, ◌<◌}
-use mathlib.Core.Path.{◌≡◌, refl, ap}
-use mathlib.Core.Bool.{Bool, false}
+use Prim.Native.Nat.{ℕ, suc, ◌<◌}
+use mathlib.Core.Path.{◌≡◌, refl, ap, ap₂, ◌∙◌}
+use mathlib.Core.Bool.{Bool, true, false}
 use mathlib.Core.List.{List, [], ◌∷◌}
 use native.Mathlib.Omega.{arith}
 use lib.ListN.{length, get_or}
+use Rattle.std.specs.Int.{from_bool}
+use Rattle.basics.specs.Choice.{when◌then◌else◌}
 use Rattle.frames.specs.Frames.{lock_byte, lock_bytes}
 
 pub locks-length : (locks : List Bool) → length (lock_bytes locks) ≡ length locks
@@ -12,8 +14,17 @@ unfolding lock_bytes
 locks-length [] = refl
 locks-length (locked ∷ locks) = ap suc (locks-length locks)
 
-pub lock-at : (locks : List Bool) (i : ℕ) → i < length locks → get_or (lock_bytes locks) i 0 ≡ lock_byte (get_or locks i false)
+-- the library's number of a bool is the byte
+library_byte : (locked : Bool) → from_bool locked ≡ lock_byte locked
+unfolding lock_byte when◌then◌else◌
+library_byte true = refl
+library_byte false = refl
+
+pub is_lock-bytes : (locks : List Bool) (bytes : List ℕ) → length bytes ≡ length locks
+    → ((i : ℕ) → i < length locks → get_or bytes i 0 ≡ from_bool (get_or locks i false)) → bytes ≡ lock_bytes locks
 unfolding lock_bytes
-lock-at [] i h = absurd (omega arith)
-lock-at (locked ∷ locks) zero h = refl
-lock-at (locked ∷ locks) (suc i) h = lock-at locks i (omega arith)
+is_lock-bytes [] [] e h = refl
+is_lock-bytes [] (byte ∷ bytes) e h = absurd (omega arith)
+is_lock-bytes (locked ∷ locks) [] e h = absurd (omega arith)
+is_lock-bytes (locked ∷ locks) (byte ∷ bytes) e h =
+    ap₂ (λ (b : ℕ) (l : List ℕ). b ∷ l) (h 0 (omega arith) ∙ library_byte locked) (is_lock-bytes locks bytes (omega arith) (λ i l. h (suc i) (omega arith)))

@@ -1,24 +1,24 @@
 -- Laws of a frame that is written part by part. The idea: a part that is lent comes back between what stands before it and behind it, which is `◌from◌put◌`
 -- where it comes back as long as it was; and the frame stays as long as it is.
 use Prim.Native.Nat.{ℕ, ◌+◌, ◌-◌, ◌≤◌, ◌<◌}
-use mathlib.Core.Path.{◌≡◌, refl, sym, ap, ◌∙◌}
+use mathlib.Core.Path.{◌≡◌, refl, ap, ◌∙◌}
 use mathlib.Core.List.{List, [], ◌∷◌, append_assoc}
 use native.Mathlib.Numerals.{add-one}
 use native.Mathlib.Omega.{arith}
-use lib.ListN.{length, set, take, drop, length-append, length-take, length-drop, length-set}
+use lib.ListN.{length, set, take, drop, replicate, length-append, length-take, length-drop, length-set, length-replicate}
 use lib.Seq.{drop-drop, set_split, sets-eq}
 use borrow.Rule.Slice.PartMut.{put_mid}
-use Rattle.frames.specs.Bytes.{◌from◌put◌}
+use Rattle.frames.specs.Bytes.{zeros, ◌from◌put◌}
 
 -- a frame as it should be, and as it is
 pub record Written (right frame : List ℕ) : Type 0 where
   pub same : frame ≡ right
   pub whole : length frame ≡ 5120
 
-pub unwritten : {frame : List ℕ} → 5120 ≡ length frame → Written frame frame
-unwritten e = record { same = refl; whole = sym e }
+pub unwritten : {frame : List ℕ} → length frame ≡ 5120 → Written frame frame
+unwritten e = record { same = refl; whole = e }
 
-pub lent_length : (frame : List ℕ) (at end : ℕ) → at ≤ end → end ≤ length frame → length (take (end - at) (drop at frame)) ≡ end - at
+lent_length : (frame : List ℕ) (at end : ℕ) → at ≤ end → end ≤ length frame → length (take (end - at) (drop at frame)) ≡ end - at
 lent_length frame at end order within = simp (length-take, length-drop) (omega arith)
 
 module _ {right frame : List ℕ} (w : Written right frame) where
@@ -53,9 +53,11 @@ module _ {right frame : List ℕ} (w : Written right frame) where
           whole = rw e (simp (length-append, length-take, length-drop) (omega arith));
         }
 
-    -- one whose bytes follow from its length
-    pub then-filled : (fill : ℕ → List ℕ) (part : List ℕ) → ((n : ℕ) → length (fill n) ≡ n) → part ≡ fill (length (take (end - at) (drop at frame)))
-        → Written (right from at put fill (end - at)) (put_mid at (end - at) frame part)
-    then-filled fill part n e =
-        let l = w.whole in
-        then-part part (fill (end - at)) (n (end - at)) (e ∙ ap fill (lent_length frame at end order (omega arith)))
+    -- one that was filled with zeros
+    pub then-zeros : (part : List ℕ) → part ≡ replicate (length (take (end - at) (drop at frame))) 0
+        → Written (right from at put zeros (end - at)) (put_mid at (end - at) frame part)
+    unfolding zeros
+    then-zeros part e =
+        let same : length frame ≡ 5120 = w.whole in
+        let long : length (take (end - at) (drop at frame)) ≡ end - at = lent_length frame at end order (omega arith) in
+        then-part part (replicate (end - at) 0) (length-replicate (end - at) 0) (e ∙ ap (λ (k : ℕ). replicate k 0) long)

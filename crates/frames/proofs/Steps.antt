@@ -1,32 +1,34 @@
 -- Laws of a step, over what its code found. The idea: the reading decides which clause of `step_by` is due.
-use Prim.Native.Nat.{ℕ, ◌≤◌}
+use Prim.Native.Nat.{ℕ, zero, suc, min, ◌≤◌}
 use mathlib.Core.Path.{◌≡◌, refl, ap, ◌∙◌}
-use mathlib.Core.List.{List}
+use mathlib.Core.List.{List, ◌∷◌}
 use native.Mathlib.Omega.{arith}
 use lib.Dec.{ltb}
-use borrow.Author.Tests.{ltb-false}
+use lib.ListN.{take}
+use borrow.Author.Tests.{ltb-true, ltb-false}
+use Rattle.basics.specs.Range.{listed}
 use Rattle.basics.proofs.Choice.{if-both}
 use Rattle.partitions.specs.Map.{Map}
-use Rattle.model.specs.declared.Session.{Session}
 use Rattle.model.specs.declared.Command.{Command}
 use Rattle.model.specs.Answers.{code_of, value_of}
 use Rattle.model.specs.Lent.{Lent, Machine}
 use Rattle.model.specs.Step.{Result}
-use Rattle.chip.specs.Chip.{lent_of, machine_of, result_for}
-use Rattle.script.specs.declared.Reading.{Reading}
+use Rattle.chip.specs.Chip.{lent_of, result_for}
+use Rattle.script.specs.declared.Refusal.{Refusal}
 use Rattle.script.specs.declared.Reading.TheVariants.{Record, End, Refused}
-use Rattle.script.specs.Records.{little_endian_at, next_at}
+use Rattle.script.specs.Records.{little_endian_at, next_at, refusal_code}
 use Rattle.frames.specs.Bytes.{numbers_at}
-use Rattle.frames.specs.Frames.{lent_in, cells_in, copy_in, constants_in, FrameStep, step_by, step_of, step_with, refused_of}
+use Rattle.frames.specs.Frames.{lent_in, cells_in, copy_in, constants_in, FrameStep, step_by, step_of}
 use Rattle.frames.specs.Frames.{frame_on, frame_after}
 
-pub step-refused : (map : Map) (n : Reading) (l : Lent) (session : Session)
-    → ((command : Command) (next : ℕ) → n ≡ Record command next → ⊥)
-    → step_with l (refused_of n session) ≡ step_by map n (machine_of l session)
-unfolding step_by
-step-refused map (Record command next) l session h = absurd (h command next refl)
-step-refused map End l session h = refl
-step-refused map (Refused refusal at) l session h = refl
+pub step-ended : (map : Map) (script : List ℕ) (m : Machine) → next_at script 0 ≡ End → record { machine = m; code = 0; value = 0 } ≡ step_of map script m
+unfolding step_of step_by
+step-ended map script m found = rw found
+
+pub step-refused : (map : Map) (script : List ℕ) (m : Machine) (refusal : Refusal) (at code : ℕ)
+    → next_at script 0 ≡ Refused refusal at → code ≡ refusal_code refusal → record { machine = m; code = code; value = at } ≡ step_of map script m
+unfolding step_of step_by
+step-refused map script m refusal at code found c = rw (found, c)
 
 abbrev stepped : Result → ℕ → ℕ → FrameStep
 stepped r code value = record { machine = r.machine; code = code; value = value }
@@ -38,18 +40,38 @@ pub step-done : (map : Map) (script : List ℕ) (m : Machine) (command : Command
 unfolding step_of step_by
 step-done map script m command next r code value found done c v = rw (found, c, v, done)
 
--- no more is lent than the area has
-pub lent-most : (frame : List ℕ) (at most : ℕ) → lent_in frame at most ≤ most
-unfolding lent_in
-lent-most frame at most =
-    if-both (λ (n : ℕ). n ≤ most) (ltb most (little_endian_at frame at 2)) most (little_endian_at frame at 2) (λ t. omega arith) (λ t. omega (arith, ltb-false))
+take-listed : (f : ℕ → ℕ) (i n most : ℕ) → n ≤ most → take n (listed f i most) ≡ listed f i n
+unfolding listed
+take-listed f i zero most h = refl
+take-listed f i (suc n) zero h = absurd (omega arith)
+take-listed f i (suc n) (suc most) h = ap (λ (l : List ℕ). f i ∷ l) (take-listed f (suc i) n most (omega arith))
 
--- what is lent holds the words of the frame
-pub step-filled : (frame cells copy constants after : List ℕ) (n m k : ℕ)
-    → cells ≡ numbers_at frame 144 2 n → copy ≡ numbers_at frame 2204 2 m → constants ≡ numbers_at frame 4524 2 k
-    → n ≡ lent_in frame 104 1030 → m ≡ lent_in frame 106 1030 → k ≡ lent_in frame 110 180
-    → after ≡ frame_on (lent_of cells copy constants) frame → after ≡ frame_after frame
+-- what is lent is the smaller of the number and of what the area has
+pub lent-least : (frame : List ℕ) (at most : ℕ) → min (little_endian_at frame at 2) most ≡ lent_in frame at most
+unfolding lent_in
+lent-least frame at most =
+    let n = little_endian_at frame at 2 in
+    if-both (λ (k : ℕ). min n most ≡ k) (ltb most n) most n (λ t. omega (arith, ltb-true)) (λ t. omega (arith, ltb-false))
+
+-- ---- what is lent of the words that are read
+
+lent-words : (frame : List ℕ) (at n most : ℕ) (words : List ℕ) → words ≡ numbers_at frame at 2 most → n ≤ most → take n words ≡ numbers_at frame at 2 n
+unfolding numbers_at
+lent-words frame at n most words e h = rw e (take-listed _ 0 n most h)
+
+pub step-read : (frame cells copy constants after : List ℕ) (n m k : ℕ)
+    → cells ≡ numbers_at frame 144 2 1030 → copy ≡ numbers_at frame 2204 2 1030 → constants ≡ numbers_at frame 4524 2 180
+    → (n ≡ lent_in frame 104 1030) × (n ≤ 1030) → (m ≡ lent_in frame 106 1030) × (m ≤ 1030) → (k ≡ lent_in frame 110 180) × (k ≤ 180)
+    → after ≡ frame_on (lent_of (take n cells) (take m copy) (take k constants)) frame → after ≡ frame_after frame
 unfolding frame_after
-step-filled frame cells copy constants after n m k c p t cn pn tn e =
-    let words : lent_of cells copy constants ≡ lent_of (cells_in frame) (copy_in frame) (constants_in frame) = rw (c, p, t, cn, pn, tn) refl in
+step-read frame cells copy constants after n m k c p t cn pn tn e =
+    let words : lent_of (take n cells) (take m copy) (take k constants) ≡ lent_of (cells_in frame) (copy_in frame) (constants_in frame) =
+    rw (
+      lent-words frame 144 n 1030 cells c cn.1,
+      lent-words frame 2204 m 1030 copy p pn.1,
+      lent-words frame 4524 k 180 constants t tn.1,
+      cn.0,
+      pn.0,
+      tn.0,
+    ) refl in
     e ∙ ap (λ (l : Lent). frame_on l frame) words

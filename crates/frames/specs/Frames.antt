@@ -102,12 +102,6 @@ step_of map script m = step_by map (next_at script 0) m
 abbrev pub step_with : Lent → Stepped → FrameStep
 step_with l s = record { machine = machine_of l s.session; code = s.code; value = s.value }
 
--- what a record that is not executed gives back; a record never comes here (its clause is never asked)
-abbrev pub refused_of : Reading → Session → Stepped
-refused_of (Record command next) session = record { session = session; code = 0; value = 0 }
-refused_of (Refused refusal at) session = record { session = session; code = refusal_code refusal; value = at }
-refused_of End session = record { session = session; code = 0; value = 0 }
-
 -- ---- what comes back
 
 unfoldable pub phase_number : Phase → ℕ

@@ -6,10 +6,14 @@ use Prim.Native.Nat.{ℕ, zero, suc, ◌+◌, ◌-◌, ◌≤◌, ◌<◌}
 use native.Mathlib.Numerals.{add-one}
 use native.Mathlib.Omega.{arith}
 use lib.Dec.{eqb}
+use lib.Pointwise.{pointwise}
 use borrow.Author.Tests.{eqb-true, eqb-false, eq-eqb, ne_eqb, not-false}
-use Rattle.std.specs.Prelude.{Option, Some, None}
+use Rattle.std.specs.Prelude.{Option, Some, None, find}
+use Rattle.std.specs.List.{range_with_len}
+use Rattle.std.proofs.lemmas.Option.{none-some, same_Some}
 use Rattle.basics.proofs.Choice.{by_cases, true-not-false, not-passed, and_left, and_right, and_both, if-true, if-false}
 use Rattle.words.proofs.Words.{Words}
+use Rattle.life_cycle.specs.declared.LifeCycle.{LifeCycle}
 use Rattle.constants.specs.Constants.{valid_constants}
 use Rattle.life_cycle.specs.Words.{counter_words, state_words, same_words, encoded_by, life_cycle_of, decoded}
 use Rattle.life_cycle.proofs.Distinct.{counter-distinct, state-distinct}
@@ -52,13 +56,12 @@ module _ (encoding : ℕ → List ℕ) (ws : List ℕ) where
 
   -- what is found: its encoding is the words
   pub encoded-found : (i n m : ℕ) → encoded_by encoding ws i n ≡ Some m → (ws ≡ encoding m) × (m < i + n)
-  encoded-found i zero m e = absurd (let q : None ≡ Some m = sym (encoded-none i) ∙ e in let z : ◌≡◌ {A = ℕ} 0 1 = cc in omega arith)
+  encoded-found i zero m e = absurd (none-some m (sym (encoded-none i) ∙ e))
   encoded-found i (suc n) m e = by_cases (same_words ws (encoding i)) here (later (encoded-found (suc i) n m))
     where
       here : same_words ws (encoding i) ≡ true → (ws ≡ encoding m) × (m < i + suc n)
       here t =
-          let q : Some i ≡ Some m = sym (encoded-here i n t) ∙ e in
-          let p : i ≡ m = cc in
+          let p = same_Some i m (sym (encoded-here i n t) ∙ e) in
           (rw (← p) (same-equal ws (encoding i) t), omega arith)
 
       later : (encoded_by encoding ws (suc i) n ≡ Some m → (ws ≡ encoding m) × (m < suc i + n)) → same_words ws (encoding i) ≡ false
@@ -82,27 +85,21 @@ module _ (encoding : ℕ → List ℕ) (ws : List ℕ) where
           let l : suc i ≤ m = omega (arith, eqb-false i m t) in
           encoded-next i n (unequal-not-same ws (encoding i) (h i l)) ∙ rest l (omega arith) e h
 
--- as a loop searches: none of the first i of n numbers has the words as its encoding
-pub record Searched (encoding : ℕ → List ℕ) (ws : List ℕ) (n i : ℕ) : Type 0 where
-  pub within : i ≤ n
-  pub left : encoded_by encoding ws 0 n ≡ encoded_by encoding ws i (n - i)
+-- ---- as code searches: `==` of slices, and `find` over a range
 
-module _ {encoding : ℕ → List ℕ} {ws : List ℕ} {n : ℕ} where
-  pub searched-none : Searched encoding ws n 0
-  searched-none = record { within = omega arith; left = let q : n - 0 ≡ n = omega arith in rw q }
+same-pointwise : (xs ys : List ℕ) → pointwise eqb xs ys ≡ same_words xs ys
+unfolding same_words
+same-pointwise [] [] = refl
+same-pointwise [] (y ∷ ys) = refl
+same-pointwise (x ∷ xs) [] = refl
+same-pointwise (x ∷ xs) (y ∷ ys) = ap (λ b. eqb x y && b) (same-pointwise xs ys)
 
-  pub searched-here : {i : ℕ} → Searched encoding ws n i → i < n → same_words ws (encoding i) ≡ true → encoded_by encoding ws 0 n ≡ Some i
-  searched-here {i} s h e =
-      let q : n - i ≡ suc (n - suc i) = omega arith in
-      s.left ∙ rw q (encoded-here encoding ws i (n - suc i) e)
-
-  pub searched-next : {i : ℕ} → Searched encoding ws n i → i < n → same_words ws (encoding i) ≡ false → Searched encoding ws n (i + 1)
-  searched-next {i} s h e =
-      let q : n - i ≡ suc (n - suc i) = omega arith in
-      record { within = omega arith; left = s.left ∙ rw (q, add-one i) (encoded-next encoding ws i (n - suc i) e) }
-
-  pub searched-end : {i : ℕ} → Searched encoding ws n i → n ≤ i → encoded_by encoding ws 0 n ≡ None
-  searched-end {i} s h = let q : n - i ≡ 0 = omega arith in s.left ∙ rw q (encoded-none encoding ws i)
+pub find-encoded : (encoding : ℕ → List ℕ) (ws : List ℕ) (i n : ℕ) → find (λ k. pointwise eqb ws (encoding k)) (range_with_len i n) ≡ encoded_by encoding ws i n
+find-encoded encoding ws i zero = sym (encoded-none encoding ws i)
+find-encoded encoding ws i (suc n) =
+    by_cases (same_words ws (encoding i))
+    (λ t. rw (same-pointwise ws (encoding i), t) (sym (encoded-here encoding ws i n t)))
+    (λ t. rw (same-pointwise ws (encoding i), t, add-one i) (find-encoded encoding ws (suc i) n ∙ sym (encoded-next encoding ws i n t)))
 
 -- ---- the life cycle
 
@@ -130,20 +127,21 @@ unfolding life_cycle_of
 no-count None = refl
 no-count (Some s) = refl
 
-valid-parts : (state count : Option ℕ) (s n : ℕ) → life_cycle_of state count ≡ Some (record { state = s; count = n }) → (state ≡ Some s) × (count ≡ Some n) × (n ≡ 0 → s ≡ 0)
+valid-parts : (state count : Option ℕ) (s n : ℕ) → life_cycle_of state count ≡ Some (record { state = s; count = n })
+    → (state ≡ Some s) × (count ≡ Some n) × (n ≡ 0 → s ≡ 0)
 unfolding life_cycle_of
-valid-parts None count s n e = absurd (let z : ◌≡◌ {A = ℕ} 0 1 = cc in omega arith)
-valid-parts (Some s') None s n e = absurd (let z : ◌≡◌ {A = ℕ} 0 1 = cc in omega arith)
+valid-parts None count s n e = cc
+valid-parts (Some s') None s n e = cc
 valid-parts (Some s') (Some n') s n e = by_cases (eqb n' 0 && not (eqb s' 0)) spent found
   where
     spent : (eqb n' 0 && not (eqb s' 0)) ≡ true → (Some s' ≡ Some s) × (Some n' ≡ Some n) × (n ≡ 0 → s ≡ 0)
-    spent t = absurd (let q : None ≡ Some (record { state = s; count = n }) = sym (if-true _ _ t) ∙ e in let z : ◌≡◌ {A = ℕ} 0 1 = cc in omega arith)
+    spent t = absurd (none-some _ (sym (if-true _ _ t) ∙ e))
 
     found : (eqb n' 0 && not (eqb s' 0)) ≡ false → (Some s' ≡ Some s) × (Some n' ≡ Some n) × (n ≡ 0 → s ≡ 0)
     found t =
-        let q : Some (record { state = s'; count = n' }) ≡ Some (record { state = s; count = n }) = sym (if-false _ _ t) ∙ e in
-        let a : s' ≡ s = cc in
-        let b : n' ≡ n = cc in
+        let q = same_Some _ _ (sym (if-false _ _ t) ∙ e) in
+        let a : s' ≡ s = ap (λ (l : LifeCycle). l.state) q in
+        let b : n' ≡ n = ap (λ (l : LifeCycle). l.count) q in
         (ap Some a, ap Some b, rw (a, b) at (blank-raw n' s' t))
 
 -- what a valid decoding says

@@ -5,9 +5,8 @@ ghost use Rattle.std.specs.Prelude.{◌≡◌, ◌<◌};
 ghost use Rattle.life_cycle.specs.Words.{counter_word, counter_words, has_b, state_word, state_words, encoded_by, decoded};
 ghost use Rattle.life_cycle.specs.Transitions.{is_test, is_unlocked, is_locked, test_index, table_entry};
 
-use std::array;
-
 use constants::{FIRST_A, FIRST_B, FIRST_C, FIRST_D};
+use std::array;
 use words::word_at;
 
 // The states by their numbers. TEST_UNLOCKEDn is 2n + 1, TEST_LOCKEDn is 2n + 2.
@@ -107,14 +106,14 @@ pub fn state_words(constants: &[u16], state: u8) -> [u16; 20]
 fn count_of(constants: &[u16], counter: &[u16]) -> Option<u8>
     ensures { result ≡ encoded_by (counter_words constants.now) counter.now 0 25 }
 {
-    (0..=STROKES).find(|count| counter == counter_words(constants, *count).as_slice())
+    (0..STROKES + 1).find(|count| counter == counter_words(constants, *count).as_slice())
 }
 
 // The state whose state words these are.
 fn state_of(constants: &[u16], state: &[u16]) -> Option<u8>
     ensures { result ≡ encoded_by (state_words constants.now) state.now 0 21 }
 {
-    (RAW..=SCRAP).find(|number| state == state_words(constants, *number).as_slice())
+    (RAW..SCRAP + 1).find(|number| state == state_words(constants, *number).as_slice())
 }
 
 // What counter words and state words stand for. Words that are no encoding, and any other number of words, stand for nothing; nor does count 0 with

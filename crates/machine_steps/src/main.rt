@@ -2,40 +2,26 @@
 // ends it.
 #![tactic(auto)]
 
-ghost use Rattle.std.specs.Prelude.{◌≡◌, length};
-
 use std::io;
 use std::io::{Read, Write};
 
-fn frame_buffer() -> [u8; 5120]
-    ensures { 5120 ≡ length result }
-{
-    [0; 5120]
-}
-
-fn write<W: Write>(writer: &mut W, frame: &[u8; 5120]) -> bool {
-    writer.write_all(frame).is_ok()
-}
-
-// Reads a frame and writes it after its command; false where no whole frame came or what was written was not taken.
-fn step_next<R: Read, W: Write>(reader: &mut R, writer: &mut W) -> bool {
-    let mut frame = frame_buffer();
-    if reader.read_exact(&mut frame).is_err() {
-        return false;
-    }
+// Reads a frame and writes it after its command. It fails where no whole frame comes, or what is written is not taken.
+fn step_next<R: Read, W: Write>(reader: &mut R, writer: &mut W) -> io::Result<()> {
+    let mut frame = [0; 5120];
+    reader.read_exact(&mut frame)?;
     frames::step(&mut frame);
-    write(writer, &frame)
+    writer.write_all(&frame)
 }
 
 // Nothing says that the input ends, so the frames are counted, up to a number that no run reaches.
-fn step_all<R: Read, W: Write>(reader: &mut R, writer: &mut W) {
+fn step_all<R: Read, W: Write>(reader: &mut R, writer: &mut W) -> io::Result<()> {
     for _ in 0..u64::MAX {
-        if !step_next(reader, writer) {
-            return;
-        }
+        step_next(reader, writer)?;
     }
+    Ok(())
 }
 
+// The end of the input is the end of the program, and no failure of it.
 fn main(rt: HostRuntime) {
-    step_all(&mut rt.stdin(), &mut io::writer(&rt));
+    let _ = step_all(&mut rt.stdin(), &mut io::writer(&rt));
 }

@@ -1,7 +1,6 @@
 -- Cases on commands: by class, and by what a command writes. The idea: the commands are listed here, and a law that needs no more asks for the class.
 use mathlib.Core.Path.{◌≡◌, refl, sym, ◌∙◌}
 use Prim.Native.Nat.{ℕ}
-use native.Mathlib.Omega.{arith}
 use Rattle.model.specs.declared.Command.{Command}
 use Rattle.model.specs.declared.Command.TheVariants.{Read, Write, FrontRead, Digest, ReadLock, Transition, PowerUp}
 use Rattle.model.specs.Answers.{Answer}
@@ -51,15 +50,15 @@ lasts_on =
     (λ x e answer h. rw (e, not_power_up) tt)
 
 pub access-not-transiting : (x : Command) → class_of x ≡ access → class_of x ≡ transiting → ⊥
-access-not-transiting x e f = let z : ◌≡◌ {A = ℕ} 0 1 = cc in omega arith
+access-not-transiting x e f = cc
 
 -- ---- each class has its commands, and no others
 
 sensing-not-transiting : sensing ≡ transiting → ⊥
-sensing-not-transiting e = let z : ◌≡◌ {A = ℕ} 0 1 = cc in omega arith
+sensing-not-transiting e = cc
 
 access-not-sensing : access ≡ sensing → ⊥
-access-not-sensing e = let z : ◌≡◌ {A = ℕ} 0 1 = cc in omega arith
+access-not-sensing e = cc
 
 only-power-up : (x : Command) → class_of x ≡ sensing → x ≡ PowerUp
 only-power-up =
@@ -75,13 +74,13 @@ only-transitions =
     (λ x a e. absurd (access-not-transiting x a e))
 
 nothing_written : {w : Writing} {a value : ℕ} → w ≡ writes_nothing → w ≡ writes_at a value → ⊥
-nothing_written n e = let z : ◌≡◌ {A = ℕ} 0 1 = cc in omega arith
+nothing_written n e = cc
 
 nothing-digested : {w : Writing} {a : ℕ} → w ≡ writes_nothing → w ≡ digests_at a → ⊥
-nothing-digested n e = let z : ◌≡◌ {A = ℕ} 0 1 = cc in omega arith
+nothing-digested n e = cc
 
 written-not-digested : {a b value : ℕ} → writes_at a value ≡ digests_at b → ⊥
-written-not-digested e = let z : ◌≡◌ {A = ℕ} 0 1 = cc in omega arith
+written-not-digested e = cc
 
 only-writes : (a value : ℕ) (x : Command) → writing_of x ≡ writes_at a value → x ≡ Write a value
 only-writes a value =

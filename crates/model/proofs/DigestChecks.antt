@@ -1,8 +1,9 @@
 -- A partition passes the check of its digest until its data are written. The idea: whatever leaves its words leaves the check's result; a digest command puts
 -- the digest of the words as they are; and no write reaches a hardware digest.
 use Rattle.std.specs.Prelude.{Ok}
+use Rattle.std.proofs.Math.Bool.{or-true}
 use mathlib.Core.Path.{◌≡◌, refl, sym, ap, ap₂, ◌∙◌}
-use mathlib.Core.Bool.{Bool, true, false, not, ◌||◌}
+use mathlib.Core.Bool.{true, not, ◌||◌}
 use mathlib.Core.List.{List, [], ◌∷◌}
 use mathlib.Core.Logic.{◌↔◌}
 use Prim.Native.Nat.{ℕ, ◌+◌, ◌*◌, ◌/◌, ◌^◌, ◌≤◌, ◌<◌}
@@ -45,10 +46,6 @@ use Rattle.model.proofs.Targets.{WriteBurns, left, DigestBurns, burnt, write-bur
 use Rattle.model.proofs.Forms.{computed}
 use Rattle.model.proofs.Classes.{by-writing}
 use Rattle.model.proofs.Guards.{allowed-both, digest-guards, digest-open, allowed-there, allowed-below}
-
-or-true : (a : Bool) → (a || true) ≡ true
-or-true true = refl
-or-true false = refl
 
 -- ---- the digest of words of 16 bits is a number of 64 bits
 

@@ -6,7 +6,6 @@ use mathlib.Core.Bool.{true, false}
 use mathlib.Core.List.{List, [], ◌∷◌, ◌++◌}
 use mathlib.Core.Logic.{◌⊎◌, inl, inr, ⊎_elim}
 use Prim.Native.Nat.{ℕ}
-use native.Mathlib.Omega.{arith}
 use lib.Dec.{eqb}
 use lib.ListN.{get_or}
 use borrow.Author.Tests.{eqb-true, eqb-false}
@@ -61,10 +60,10 @@ sensed-as-stored prims map F n D m r e =
 
 -- a command that writes nothing is no digest command, and neither is a write
 no-digest : (x : Command) {a : ℕ} → writing_of x ≡ writes_nothing → x ≡ Digest a → ⊥
-no-digest x e f = let z : ◌≡◌ {A = ℕ} 0 1 = cc in omega arith
+no-digest x e f = cc
 
 not-digest : {a value b : ℕ} → Write a value ≡ Digest b → ⊥
-not-digest e = let z : ◌≡◌ {A = ℕ} 0 1 = cc in omega arith
+not-digest e = cc
 
 digest-same : {a b : ℕ} → Digest a ≡ Digest b → a ≡ b
 digest-same e = cc

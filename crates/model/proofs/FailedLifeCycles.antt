@@ -1,6 +1,7 @@
 -- What a failed life cycle check was caused by. The idea: a command leaves what the life cycle words decode to, or it is a transition that spent a stroke; that
 -- one leaves the state, or puts its target there, and its target is SCRAP or not.
 use Rattle.std.specs.Prelude.{Option, None, Some}
+use Rattle.std.proofs.lemmas.Option.{same_Some}
 use mathlib.Core.Path.{◌≡◌, sym, ap, ◌∙◌}
 use mathlib.Core.Bool.{true}
 use mathlib.Core.List.{List, [], ◌∷◌}
@@ -9,7 +10,6 @@ use Prim.Native.Nat.{ℕ, suc}
 use native.Mathlib.Omega.{arith}
 use lib.Dec.{eqb}
 use borrow.Author.Tests.{eqb-false, eqb-true}
-use Rattle.basics.proofs.First.{some_same}
 use Rattle.basics.proofs.Choice.{if-both, by_cases}
 use Rattle.partitions.specs.Map.{Map}
 use Rattle.partitions.specs.Fitness.{fit}
@@ -30,7 +30,7 @@ use Rattle.model.proofs.TransitionLife.{LifeAfter, kept, spent, went, transition
 use Rattle.model.proofs.Classes.{by-class}
 
 valid-state : {s n t k : ℕ} → valid_life s n ≡ valid_life t k → s ≡ t
-valid-state e = ap (λ (life : LifeCycle). life.state) (some_same e)
+valid-state e = ap (λ (life : LifeCycle). life.state) (same_Some _ _ e)
 
 module _ (prims : Primitives) (map : Map) (F : fit map ≡ true) where
   -- the life cycle words decode to a state that is not SCRAP

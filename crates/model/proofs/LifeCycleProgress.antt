@@ -1,12 +1,12 @@
 -- The progress of the life cycle from a power-up on. The idea: a transition keeps it, spends a stroke or takes an entry of the table, and every other command
 -- keeps it.
 use Rattle.std.specs.Prelude.{Option}
+use Rattle.std.proofs.lemmas.Option.{same_Some}
 use mathlib.Core.Path.{◌≡◌, refl, sym, ap, ◌∙◌}
 use mathlib.Core.Bool.{true}
 use mathlib.Core.List.{List, [], ◌∷◌, ◌++◌}
-use Prim.Native.Nat.{ℕ, ◌≤◌, suc}
+use Prim.Native.Nat.{ℕ, ◌≤◌}
 use native.Mathlib.Omega.{arith}
-use Rattle.basics.proofs.First.{some_same}
 use Rattle.partitions.specs.Map.{Map}
 use Rattle.partitions.specs.Fitness.{fit}
 use Rattle.life_cycle.specs.declared.LifeCycle.{LifeCycle}
@@ -79,7 +79,7 @@ module _ (prims : Primitives) (map : Map) (F : fit map ≡ true) where
       life-not-four (transition-life prims map F (after prims map (PowerUp ∷ l) m) h.held.right (recorded prims map F _ h) target given)
 
 valid-count : {s n t k : ℕ} → valid_life s n ≡ valid_life t k → n ≡ k
-valid-count e = ap (λ (life : LifeCycle). life.count) (some_same e)
+valid-count e = ap (λ (life : LifeCycle). life.count) (same_Some _ _ e)
 
 -- the count never falls
 progress-count : {x y : Option LifeCycle} → Progress x y → (s n t k : ℕ) → x ≡ valid_life s n → y ≡ valid_life t k → n ≤ k

@@ -1,10 +1,11 @@
 -- The tables of the life cycle in literal numbers. The idea: each is computed; a fact of all states and targets is a computed test.
 use Rattle.std.specs.Prelude.{Option, Some, None}
+use Rattle.std.proofs.lemmas.Option.{same_Some}
 use mathlib.Core.Path.{◌≡◌, refl, sym, ap, subst, ◌∙◌}
 use mathlib.Core.Bool.{Bool, true, false, not}
 use mathlib.Core.List.{List}
 use mathlib.Core.Logic.{◌⊎◌, inl, inr, ⊎_elim}
-use Prim.Native.Nat.{ℕ, ◌+◌, ◌*◌, ◌^◌, ◌≤◌, ◌<◌}
+use Prim.Native.Nat.{ℕ, ◌+◌, ◌*◌, ◌≤◌, ◌<◌}
 use native.Mathlib.Omega.{arith}
 use lib.Dec.{eqb, ltb}
 use lib.ListN.{get_or}
@@ -66,9 +67,6 @@ counter-words constants count i p h = counter-at constants count i h ∙ if-fals
 
 -- ---- tokens
 
-allowed_same : {a b : Token} → Some a ≡ Some b → a ≡ b
-allowed_same e = cc
-
 -- out of TEST_LOCKED the table asks for TEST_UNLOCK or TEST_EXIT, or goes to SCRAP
 asks_one : Option Token → ℕ → Bool
 asks_one None target = true
@@ -105,7 +103,7 @@ module _ (prims : Primitives) (map : Map) (machine : Machine) where
 
   to-rma : (given : ℕ) → ((machine.session.state ≡ 16) ⊎ (machine.session.state ≡ 17))
       → code_of (answer_to prims map (Transition 19 given) machine) ≡ 0x00 → Compared prims map machine given true token.Rma
-  to-rma given from z = subst (Compared prims map machine given true) (allowed_same (sym a.allowed ∙ ⊎_elim dev prod from)) a.compared
+  to-rma given from z = subst (Compared prims map machine given true) (same_Some _ _ (sym a.allowed ∙ ⊎_elim dev prod from)) a.compared
     where
       a : Asked prims map machine 19 given true
       a = (tokens-compared prims map machine 19 given).0 z

@@ -57,7 +57,7 @@ old-auth-state p a e =
     (λ t. absurd (new-not-old (sym (if-false _ _ t) ∙ e)))
   where
     new-not-old : BlankOnly ≡ KeepBits → ⊥
-    new-not-old e = let z : ◌≡◌ {A = ℕ} 0 1 = cc in omega arith
+    new-not-old e = cc
 
 digest-new : (p : Partition) → direct_rule p p.digest ≡ digest_rule
 digest-new p = digest-rule p p.digest (unfold in_digest in (le-leb _ _ (le_refl p.digest)))

@@ -7,8 +7,8 @@ use Rattle.model.specs.declared.Failure.TheVariants.{DigestFailed, LifeCycleFail
 use Rattle.model.specs.Answers.{Answer}
 use Rattle.model.specs.PowerUp.{PowerUpEnd, life_cycle_end, end_of, powered_answer}
 
-pub powered-answer : (Q : Answer → Type 0) (v : Option ℕ) (life : Option LifeCycle) → ((value : ℕ) → Q (Ok value)) → ((number : ℕ) → Q (Err (DigestFailed number)))
-    → ((value : ℕ) → Q (Err (LifeCycleFailed value))) → Q (powered_answer (end_of v life))
+pub powered-answer : (Q : Answer → Type 0) (v : Option ℕ) (life : Option LifeCycle) → ((value : ℕ) → Q (Ok value))
+    → ((number : ℕ) → Q (Err (DigestFailed number))) → ((value : ℕ) → Q (Err (LifeCycleFailed value))) → Q (powered_answer (end_of v life))
 unfolding powered_answer end_of life_cycle_end
 powered-answer Q (Some number) life f g h = g number
 powered-answer Q None None f g h = h 0xFFFF

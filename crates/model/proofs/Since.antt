@@ -51,14 +51,15 @@ module _ (prims : Primitives) (map : Map) (F : fit map ≡ true) where
     copy : powered_copy prims map w l ≡ listed (copy_word prims map l.constants l.cells) 0 (limit map / 2)
     sensed : (powered_session map w l).sensed ≡ digests l.cells map
 
-  succeeded : (v : Option ℕ) (life : Option LifeCycle) (l : Lent) → is_ready (powered_session map (end_of v life) l).phase ≡ true → Succeeded v life (end_of v life) l
+  succeeded : (v : Option ℕ) (life : Option LifeCycle) (l : Lent) → is_ready (powered_session map (end_of v life) l).phase ≡ true
+      → Succeeded v life (end_of v life) l
   unfolding end_of life_cycle_end powered_session powered_copy is_ready
   succeeded (Some number) life l = λ e. absurd (true-not-false e refl)
   succeeded None None l = λ e. absurd (true-not-false e refl)
   succeeded None (Some life) l =
       if-both (λ (w : PowerUpEnd). is_ready (powered_session map w l).phase ≡ true → Succeeded None (Some life) w l)
-      (eqb life.state 20) (fails reason.LifeCycleFailed (LifeCycleFailed (256 * life.count + life.state))) (succeeds life.state life.count) (λ t e. absurd (true-not-false e refl))
-      (λ t e. record { checked = refl; decodes = refl; not_scrap = eqb-false _ _ t; copy = refl; sensed = refl })
+      (eqb life.state 20) (fails reason.LifeCycleFailed (LifeCycleFailed (256 * life.count + life.state))) (succeeds life.state life.count)
+      (λ t e. absurd (true-not-false e refl)) (λ t e. record { checked = refl; decodes = refl; not_scrap = eqb-false _ _ t; copy = refl; sensed = refl })
 
   -- the invariant: while the phase is Ready
   pub record Held (c₀ : List ℕ) (m : Machine) : Type 0 where

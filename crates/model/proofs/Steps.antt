@@ -1,5 +1,6 @@
 -- One command and lists of commands, whatever the command. The idea: a step is a refusal that changes nothing, a power-up or a performed act.
 use Rattle.std.specs.Prelude.{Err, Option, Some, None}
+use Rattle.std.proofs.lemmas.Option.{none-some}
 use mathlib.Core.Path.{◌≡◌, refl, sym, ◌∙◌, ap}
 use mathlib.Core.Bool.{true, not, false}
 use mathlib.Core.List.{List, [], ◌∷◌, ◌++◌}
@@ -9,7 +10,6 @@ use lib.ListN.{length}
 use borrow.Author.Tests.{eqb-true, not-false, not-true}
 use Rattle.basics.proofs.Choice.{if-both, and-three, if-true, true-not-false, by-option, by_cases, if-false}
 use Rattle.basics.proofs.Range.{length-listed}
-use Rattle.basics.proofs.First.{some-not-none}
 use Rattle.words.specs.Programming.{Kept}
 use Rattle.words.proofs.Programming.{kept_refl, kept_trans}
 use Rattle.partitions.specs.Map.{Map, limit}
@@ -44,8 +44,8 @@ pub judgement-right : (map : Map) (sizes : Sizes) (k : List ℕ) → judgement m
 unfolding judgement
 judgement-right map sizes k e =
     by_cases (right_sizes map sizes (length k))
-    (λ t. by_cases (valid_constants k) (λ v. (t, v)) (λ v. absurd (some-not-none (sym (if-false _ _ (ap not t) ∙ if-true _ _ (ap not v)) ∙ e))))
-    (λ t. absurd (some-not-none (sym (if-true _ _ (ap not t)) ∙ e)))
+    (λ t. by_cases (valid_constants k) (λ v. (t, v)) (λ v. absurd (none-some _ (sym e ∙ if-false _ _ (ap not t) ∙ if-true _ _ (ap not v)))))
+    (λ t. absurd (none-some _ (sym e ∙ if-true _ _ (ap not t))))
 
 module _ (prims : Primitives) (map : Map) where
   pub after-append : (xs ys : List Command) (m : Machine) → after prims map (xs ++ ys) m ≡ after prims map ys (after prims map xs m)
@@ -109,8 +109,8 @@ module _ (prims : Primitives) (map : Map) where
       (λ failure f. rw (refused-step x m failure f, refused-step x n failure (e ∙ f)) (u failure))
 
   -- what holds where what is lent is refused, with 0x10 or 0x12, and of the command obeyed
-  pub step_both : (Q : Step → Type 0) (x : Command) (m : Machine) → ((failure : Failure) → judgement_code (code_of (Err failure)) ≡ true → Q (unchanged failure m))
-      → Q (obey prims map x m) → Q (step prims map x m)
+  pub step_both : (Q : Step → Type 0) (x : Command) (m : Machine)
+      → ((failure : Failure) → judgement_code (code_of (Err failure)) ≡ true → Q (unchanged failure m)) → Q (obey prims map x m) → Q (step prims map x m)
   step_both Q x m u h = step-judged Q x m (λ e. u WrongLength refl) (λ e v. u InvalidConstants refl) (λ e v. h)
 
   -- what holds there, of a power-up and of an act holds of every command

@@ -5,7 +5,7 @@ use mathlib.Core.Path.{◌≡◌, refl, sym, ap, ◌∙◌}
 use mathlib.Core.Bool.{true, false}
 use mathlib.Core.List.{List}
 use mathlib.Core.Logic.{⊎_elim}
-use Prim.Native.Nat.{ℕ, ◌+◌, ◌*◌, suc, ◌^◌}
+use Prim.Native.Nat.{ℕ, suc}
 use native.Mathlib.Omega.{arith}
 use borrow.Author.Tests.{eqb-false}
 use Rattle.basics.proofs.Choice.{true-not-false, not-passed, by_cases}
@@ -46,8 +46,8 @@ unfolding stroke_only
 stroke-not-four code e q = true-not-false e (rw q)
 
 -- so 4 is never given
-pub life-not-four : {prims : Primitives} {map : Map} {m : Machine} {target code : ℕ} {life : Option LifeCycle} → LifeAfter prims map m target code life → code ≡ 0x04
-    → ⊥
+pub life-not-four : {prims : Primitives} {map : Map} {m : Machine} {target code : ℕ} {life : Option LifeCycle}
+    → LifeAfter prims map m target code life → code ≡ 0x04 → ⊥
 life-not-four (kept s z f e) = f
 life-not-four (spent s v e) = stroke-not-four _ s
 life-not-four (went z v a e) = λ q. omega arith

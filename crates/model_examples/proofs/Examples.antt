@@ -133,7 +133,7 @@ not-zero z = omega arith
 
 not-old : direct_rule (partition_at map1 0x003) 0x003 ≡ KeepBits → ⊥
 unfolding everything
-not-old e = let z : ◌≡◌ {A = ℕ} 0 1 = cc in omega arith
+not-old e = cc
 
 reads_on : answer_to toy map1 (Read 0x001) (after toy map1 passing wrote) ≡ Ok 0x55
 unfolding everything passing wrote
@@ -327,11 +327,11 @@ token-matched = (tt, (refl, tt), ((refl, tt), tt, tt))
 
 token-right : Asked toy map1 (after toy map1 (PowerUp ∷ []) (off tested)) 3 0x71 true
 unfolding everything tested
-token-right = (toy-claims.transitions.tokens (after toy map1 (PowerUp ∷ []) (off tested)) 3 0 0x71).0 refl
+token-right = (toy-claims.transitions.tokens (after toy map1 (PowerUp ∷ []) (off tested)) 3 0x71).0 refl
 
 token-wrong : Asked toy map1 (after toy map1 (PowerUp ∷ []) (off tested)) 3 0x70 false
 unfolding everything tested
-token-wrong = (toy-claims.transitions.tokens (after toy map1 (PowerUp ∷ []) (off tested)) 3 0 0x70).1 refl
+token-wrong = (toy-claims.transitions.tokens (after toy map1 (PowerUp ∷ []) (off tested)) 3 0x70).1 refl
 
 third-stroke : (after toy map1 (PowerUp ∷ Transition 3 0x70 ∷ []) (off tested)).lent.cells ≡ set tested 406 3
 unfolding everything tested

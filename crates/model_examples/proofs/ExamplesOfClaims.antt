@@ -47,20 +47,20 @@ fair-later = (toy-claims.transitions.fair (off blank) (right blank refl) (Write 
 -- TEST_LOCKED0 to TEST_UNLOCKED1 with SECRET0 open: 0x22, and the stroke is burnt; RAW to TEST_UNLOCKED0 with the right token: 0, and the state words too
 stroke-burnt : Put KeepBits 404 (stroke_words toy map1 (ready 2 blank)) blank (machine_after toy map1 (Transition 3 0) (ready 2 blank)).lent.cells
 unfolding everything stroke_only
-stroke-burnt = toy-claims.transitions.spent (ready 2 blank) 3 0 0 refl
+stroke-burnt = toy-claims.transitions.spent (ready 2 blank) 3 0 refl
 
 move-burnt : Put KeepBits 404 (move_words toy map1 (ready 0 blank) 1) blank (machine_after toy map1 (Transition 1 7) (ready 0 blank)).lent.cells
 unfolding everything
-move-burnt = toy-claims.transitions.moved (ready 0 blank) 1 0 7 refl
+move-burnt = toy-claims.transitions.moved (ready 0 blank) 1 7 refl
 
 -- a counter word that would lose a bit, and a state word that would
 counter-stopped : Stopped toy map1 (ready 0 (set blank 404 4)) 1 404 (machine_after toy map1 (Transition 1 7) (ready 0 (set blank 404 4))).lent.cells
 unfolding everything
-counter-stopped = toy-claims.transitions.stopped (ready 0 (set blank 404 4)) 1 0 7 refl
+counter-stopped = toy-claims.transitions.stopped (ready 0 (set blank 404 4)) 1 7 refl
 
 state-stopped : Stopped toy map1 (ready 0 (set blank 430 4)) 1 430 (machine_after toy map1 (Transition 1 7) (ready 0 (set blank 430 4))).lent.cells
 unfolding everything
-state-stopped = toy-claims.transitions.stopped (ready 0 (set blank 430 4)) 1 0 7 refl
+state-stopped = toy-claims.transitions.stopped (ready 0 (set blank 430 4)) 1 7 refl
 
 -- 24 strokes: 0x20, no cell changes
 spent-all : Machine
@@ -68,12 +68,12 @@ spent-all = record { lent = (off blank).lent; session = record { phase = Ready; 
 
 no-stroke-left : (machine_after toy map1 (Transition 20 0) spent-all).lent.cells ≡ blank
 unfolding everything spent-all
-no-stroke-left = toy-claims.transitions.used spent-all 20 0 0 refl
+no-stroke-left = toy-claims.transitions.used spent-all 20 0 refl
 
 -- RAW to DEV is not in the table: one stroke, state RAW, and the next power-up answers 256
 left-raw : Leaves toy map1 0 1 (machine_after toy map1 (Transition 16 0) (after toy map1 (PowerUp ∷ []) (off blank)))
 unfolding everything stroke_only
-left-raw = (toy-claims.transitions.leaves (off blank) (right blank refl) [] 16 0 0).0 refl
+left-raw = (toy-claims.transitions.leaves (off blank) (right blank refl) [] 16 0).0 refl
 
 answered-256 : Says 0x00 256 (answer_to toy map1 PowerUp (machine_after toy map1 (Transition 16 0) (after toy map1 (PowerUp ∷ []) (off blank))))
 unfolding everything
@@ -119,7 +119,8 @@ unbounded = refl
 
 -- ---- read locks: partition 0 is locked, and a read of its data answers 5 after a write
 
-shut : answer_to toy map1 (Read 0) (after toy map1 (Write 4 1 ∷ []) (machine_after toy map1 (ReadLock 0) (after toy map1 (PowerUp ∷ []) (off blank)))) ≡ Err Denied
+shut : answer_to toy map1 (Read 0) (after toy map1 (Write 4 1 ∷ []) (machine_after toy map1 (ReadLock 0) (after toy map1 (PowerUp ∷ []) (off blank))))
+    ≡ Err Denied
 unfolding everything
 shut = toy-claims.read_locks.lasts (off blank) (right blank refl) [] 0 refl (Write 4 1 ∷ []) (tt, tt) 0 refl (lit< tt)
 

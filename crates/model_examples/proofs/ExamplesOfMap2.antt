@@ -212,8 +212,8 @@ unfolding everything map2
 locks-that-count = refl
 
 hw-cfg-unlocked : {k : Kind} → k ≡ kind.HwCfg → Lockable k → ⊥
-hw-cfg-unlocked e Lockable.software = let z : ◌≡◌ {A = ℕ} 0 1 = cc in omega arith
-hw-cfg-unlocked e Lockable.auth_state = let z : ◌≡◌ {A = ℕ} 0 1 = cc in omega arith
+hw-cfg-unlocked e Lockable.software = cc
+hw-cfg-unlocked e Lockable.auth_state = cc
 
 lock-of-none : answer_to toy map2 (Read 0x440) (with-locks true) ≡ answer_to toy map2 (Read 0x440) (with-locks false)
 lock-of-none = toy-claims.read_locks.lockless (with-locks false) 0x440 (hw-cfg-unlocked (unfold everything map2 in refl)) (replicate 10 true)

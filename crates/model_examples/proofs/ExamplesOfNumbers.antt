@@ -83,8 +83,8 @@ no-lock : Says 0x05 0 (answer_to toy map1 (ReadLock 2) (ready 0 blank))
 no-lock = (toy-claims.read_locks.exactly (ready 0 blank) ready-inputs refl 2).1 (λ l. hw-cfg)
   where
     none : {k : Kind} → k ≡ kind.HwCfg → Lockable k → ⊥
-    none e Lockable.software = let z : ◌≡◌ {A = ℕ} 0 1 = cc in omega arith
-    none e Lockable.auth_state = let z : ◌≡◌ {A = ℕ} 0 1 = cc in omega arith
+    none e Lockable.software = cc
+    none e Lockable.auth_state = cc
 
     hw-cfg : Lockable (partition map1 2).kind → ⊥
     hw-cfg = none (unfold everything in refl)
@@ -126,6 +126,6 @@ compared =
 out-of-locked : Compared toy map1 (after toy map1 (PowerUp ∷ []) (off tested)) 0x71 true token.TestUnlock
     ⊎ Compared toy map1 (after toy map1 (PowerUp ∷ []) (off tested)) 0x71 true token.TestExit
 out-of-locked =
-    toy-claims.life_cycles.out_of_locked (after toy map1 (PowerUp ∷ []) (off tested)) 0 3 0 0x71 (lit< tt) (unfold everything tested in refl)
+    toy-claims.life_cycles.out_of_locked (after toy map1 (PowerUp ∷ []) (off tested)) 0 3 0x71 (lit< tt) (unfold everything tested in refl)
     (λ e. omega (arith, e))
     (unfold everything tested in refl)

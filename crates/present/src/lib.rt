@@ -10,7 +10,7 @@ ghost use Rattle.present.specs.Present.{s_box, substitute, permute, round_key, r
 ghost use Rattle.present.specs.Present.{s_box_inverse, permute_back, decrypt_block};
 ghost use Rattle.present.specs.Tables.{lookups};
 
-const ROUNDS: u64 = 31;
+const ROUNDS: usize = 31;
 
 // The S-box and its inverse, each as a word of 16 groups of four bits: group v is the value at v.
 const S_BOX: u64 = 0x2174_8fe3_da09_b65c;
@@ -57,6 +57,7 @@ fn looked_up(table: &[u64; 256], x: u64) -> u64
 }
 
 // The boxes and the move of bits of a round.
+#[tactic(auto, using(crate::proofs::Lookups::round_lookups))]
 fn round(x: u64) -> u64
     ensures { result ≡ permute (substitute s_box x) }
 {
@@ -64,6 +65,7 @@ fn round(x: u64) -> u64
 }
 
 // The move of bits back of a state that first goes back through the boxes.
+#[tactic(auto, using(crate::proofs::Lookups::inverse_lookups))]
 fn inverse_round(x: u64) -> u64
     ensures { result ≡ permute_back (substitute s_box_inverse x) }
 {
@@ -94,10 +96,10 @@ fn top_substituted(key: u128) -> u128
 }
 
 // The key step of a round.
-fn key_step(round: u64, key: u128) -> u128
+fn key_step(round: usize, key: u128) -> u128
     ensures { result ≡ key_step round key }
 {
-    top_substituted(key.rotate_left(61)) ^ (u128::from(round) << 62)
+    top_substituted(key.rotate_left(61)) ^ ((round as u128) << 62)
 }
 
 // The 32 round keys.
@@ -108,7 +110,7 @@ fn round_keys(key: u128) -> [u64; 32]
     let mut register = key;
     for (i, place) in keys.iter_mut().enumerate() {
         *place = round_key(register);
-        register = key_step(i as u64 + 1, register);
+        register = key_step(i + 1, register);
     }
     keys
 }
@@ -132,8 +134,8 @@ pub fn decrypt(key: u128, block: u64) -> u64
     ensures { result ≡ decrypt_block key block }
 {
     let keys = round_keys(key);
-    let mut state = permuted_back(block ^ keys[31]);
-    for round_key in keys[1..31].iter().rev() {
+    let mut state = permuted_back(block ^ keys[ROUNDS]);
+    for round_key in keys[1..ROUNDS].iter().rev() {
         state = inverse_round(state) ^ permuted_back(*round_key);
     }
     substituted(S_BOX_INVERSE, state) ^ keys[0]

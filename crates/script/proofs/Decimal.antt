@@ -4,7 +4,7 @@ use mathlib.Core.Path.{◌≡◌, refl, sym, ap, ◌∙◌}
 use mathlib.Core.Bool.{true, false}
 use mathlib.Core.List.{List, [], ◌∷◌, ◌++◌}
 use Prim.Native.Nat.{ℕ, zero, suc, ◌+◌, ◌-◌, ◌*◌, ◌/◌, ◌%◌, ◌^◌, ◌≤◌, ◌<◌}
-use native.Mathlib.Nat.{pow-suc}
+use native.Mathlib.Nat.{pow-suc, one-le-pow}
 use native.Mathlib.Numerals.{add-one}
 use native.Mathlib.Omega.{arith}
 use lib.Dec.{ltb}
@@ -32,18 +32,25 @@ module _ (f x : ℕ) where
 below-tenth : (f x : ℕ) → x < 10 ^ suc f → x / 10 < 10 ^ f
 below-tenth f x h = let l : x < 10 ^ f * 10 = rw pow-suc at h in omega arith
 
--- ---- the loop that counts decimal digits: f are still to be used
+-- ---- how many digits
 
-pub count-more : (f x : ℕ) → 10 ≤ x → x < 10 ^ f → (1 < f) × (x / 10 < 10 ^ (f - 1)) × (length (decimal f x) ≡ suc (length (decimal (f - 1) (x / 10))))
-count-more zero x h l = absurd (omega arith)
-count-more (suc zero) x h l = absurd (omega arith)
-count-more (suc (suc f)) x h l =
-    let e : suc (suc f) - 1 ≡ suc f = omega arith in
-    rw e (omega arith, below-tenth (suc f) x l, length_more (suc f) x h)
+-- the powers of ten around a number say how many it has
+length-powers : (f k x : ℕ) → k < f → 10 ^ k ≤ x → x < 10 * 10 ^ k → length (decimal f x) ≡ k + 1
+length-powers zero k x h l u = absurd (omega arith)
+length-powers (suc f) zero x h l u = length-one f x (omega arith)
+length-powers (suc zero) (suc k) x h l u = absurd (omega arith)
+length-powers (suc (suc f)) (suc k) x h l u =
+    let p : 10 ^ suc k ≡ 10 ^ k * 10 = pow-suc 10 k in
+    let few : 0 < 10 ^ k = one-le-pow k 10 (omega arith) in
+    length_more (suc f) x (omega arith) ∙ omega (arith, length-powers (suc f) k (x / 10) (omega arith) (omega arith) (omega arith))
 
-pub count-one : (f x : ℕ) → 0 < f → x < 10 → length (decimal f x) ≡ 1
-count-one zero x h l = absurd (omega arith)
-count-one (suc f) x h l = length-one f x l
+pub decimal_length : (k x : ℕ) → k < 20 → 10 ^ k ≤ x → x < 10 * 10 ^ k → length (decimal 20 x) ≡ k + 1
+decimal_length k x h l u = length-powers 20 k x h l u
+
+pub length_of_zero : (x : ℕ) → x ≡ 0 → length (decimal 20 x) ≡ 1
+length_of_zero x e = length-one 19 x (omega arith)
+
+pub ruleset decimal_lengths = (decimal_length, length_of_zero)
 
 pub decimal-short : (f x : ℕ) → length (decimal f x) ≤ f
 unfolding decimal

@@ -1,12 +1,26 @@
 -- Laws of digits as bytes. The idea: the digits of a number are those of its b-th part and one more, which is how code writes them.
 use mathlib.Core.Path.{◌≡◌, sym, ap, ap₂, ◌∙◌}
 use mathlib.Core.List.{List, [], ◌∷◌, ◌++◌}
-use Prim.Native.Nat.{ℕ, zero, suc, ◌-◌, ◌/◌, ◌%◌, ◌^◌, ◌≤◌, ◌<◌}
+use Prim.Native.Nat.{ℕ, zero, suc, ◌+◌, ◌-◌, ◌/◌, ◌%◌, ◌^◌, ◌≤◌, ◌<◌}
 use native.Mathlib.Nat.{pow-zero, pow-suc, pow-succ', div-one, div-div-eq-div-mul}
 use native.Mathlib.Omega.{arith}
 use lib.ListN.{length, set, drop, length-set}
 use lib.Seq.{drop-cons, drop-length, drop-set-lt, get_or-set_same}
+use borrow.Author.Tests.{lt-ltb, le-ltb}
+use Rattle.basics.proofs.Choice.{if-true, if-false}
 use Rattle.script.specs.Lines.{digit_byte, digits}
+
+-- ---- one digit
+
+pub digit-number : (d : ℕ) → d < 10 → digit_byte d ≡ 48 + d
+unfolding digit_byte
+digit-number d h = if-true _ _ (lt-ltb d 10 h)
+
+pub digit-letter : (d : ℕ) → 10 ≤ d → digit_byte d ≡ 97 + (d - 10)
+unfolding digit_byte
+digit-letter d h = if-false _ _ (le-ltb d 10 h)
+
+pub ruleset digit_bytes = (digit-number, digit-letter)
 
 -- ---- the loop that writes digits from the last place down
 

@@ -41,9 +41,9 @@ end : next_at script 24 ≡ End
 unfolding next_at unknown body_length command_at little_endian_at sum when◌then◌else◌
 end = refl
 
--- a transition to DEV: the low half of the token is 0x0807060504030201, the high half 0x100F0E0D0C0B0A09
+-- a transition to DEV: the lowest byte of the token comes first
 transition : next_at (6 ∷ 16 ∷ 1 ∷ 2 ∷ 3 ∷ 4 ∷ 5 ∷ 6 ∷ 7 ∷ 8 ∷ 9 ∷ 10 ∷ 11 ∷ 12 ∷ 13 ∷ 14 ∷ 15 ∷ 16 ∷ []) 0
-    ≡ Record (Transition 16 0x100F0E0D0C0B0A09 0x0807060504030201) 18
+    ≡ Record (Transition 16 0x100F0E0D0C0B0A090807060504030201) 18
 unfolding next_at unknown body_length command_at little_endian_at sum when◌then◌else◌
 transition = refl
 

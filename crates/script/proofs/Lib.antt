@@ -1,4 +1,5 @@
 pub mod Numbers
+pub mod RecordKinds
 pub mod Records
 pub mod Digits
 pub mod Decimal

@@ -1,6 +1,6 @@
 -- Laws of records. The idea: the tests of `next_at` are taken apart once, and every law reads what led to an answer.
 use Prim.Native.Nat.{ℕ, ◌+◌, ◌≤◌, ◌<◌}
-use mathlib.Core.Path.{◌≡◌, sym, ap, ◌∙◌}
+use mathlib.Core.Path.{◌≡◌, refl, sym, ap, ◌∙◌}
 use mathlib.Core.Bool.{Bool, true, false, ◌||◌}
 use mathlib.Core.List.{List}
 use native.Mathlib.Omega.{arith}
@@ -16,6 +16,9 @@ use Rattle.model.specs.declared.Command.{Command}
 use Rattle.script.specs.declared.Refusal.TheVariants.{UnknownKind, CutShort, TooLong}
 use Rattle.script.specs.declared.Reading.{Reading}
 use Rattle.script.specs.declared.Reading.TheVariants.{Record, End, Refused}
+use Rattle.script.specs.declared.RecordKind.{RecordKind}
+use Rattle.script.specs.declared.RecordKind.TheVariants.{Read, Write, FrontRead, Digest, ReadLock, Transition, PowerUp}
+use Rattle.script.specs.Kinds.{number_of_kind}
 use Rattle.script.specs.Records.{kind_of, unknown, body_length, byte_at, command_at, next_at}
 use Rattle.script.specs.contracts.Reading as N
 
@@ -50,6 +53,16 @@ module _ (s : List ℕ) (p : ℕ) where
         pub whole-record : next ≤ length s → next_at s p ≡ Record (command_at s kind (p + 1)) next
         unfolding next_at
         whole-record h = if-false _ _ (le-ltb _ _ short) ∙ if-false _ _ (lt-leb _ _ inside) ∙ if-false _ _ known ∙ if-false _ _ (le-ltb _ _ h)
+
+pub known-kind : (kind : RecordKind) → unknown (number_of_kind kind) ≡ false
+unfolding unknown
+known-kind Read = refl
+known-kind Write = refl
+known-kind FrontRead = refl
+known-kind Digest = refl
+known-kind ReadLock = refl
+known-kind Transition = refl
+known-kind PowerUp = refl
 
 either : (b : Bool) {x y : ℕ} → x ≤ 17 → y ≤ 17 → (when b then x else y) ≤ 17
 either b h k = if-both (λ (n : ℕ). n ≤ 17) b _ _ (λ e. h) (λ e. k)
@@ -107,3 +120,7 @@ led-record s p r (whole i k w) {c} {n} e =
 
 pub is_read : (s : List ℕ) (p : ℕ) {c : Command} {n : ℕ} → next_at s p ≡ Record c n → IsRead s p c n
 is_read s p = led-record s p (next_at s p) (led s p)
+
+pub ruleset outside = (too_long, at-end)
+
+pub ruleset inside_tests = (unknown-kind, cut_short, whole-record, known-kind, body-short)

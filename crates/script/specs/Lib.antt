@@ -1,3 +1,4 @@
 pub mod Records
+pub mod Kinds
 pub mod Reader
 pub mod Lines

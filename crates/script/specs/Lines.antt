@@ -1,8 +1,7 @@
 -- The lines that the bench program prints, as bytes (ASCII: a newline is 10, a space 32, 0 is 48, a is 97).
-use Rattle.std.specs.Prelude.{ℕ, zero, suc, ◌+◌, ◌-◌, ◌/◌, ◌%◌, List, [], ◌∷◌, ◌++◌, ltb, length, replicate}
+use Rattle.std.specs.Prelude.{ℕ, zero, suc, ◌+◌, ◌-◌, ◌/◌, ◌%◌, List, [], ◌∷◌, ◌++◌, ltb}
 use Rattle.basics.specs.Choice.{when◌then◌else◌}
 use Rattle.basics.specs.Digits.{digit}
-use Rattle.script.specs.declared.EndLine.{EndLine}
 
 -- 0 to 9, then a to f: "lower-case hex"
 unfoldable pub digit_byte : ℕ → ℕ
@@ -26,7 +25,3 @@ decimal (suc n) x = when ltb x 10 then digit_byte x ∷ [] else decimal n (x / 1
 -- digits.
 unfoldable pub end_line : ℕ → List ℕ
 end_line count = (101 ∷ 110 ∷ 100 ∷ 32 ∷ []) ++ decimal 20 count ++ (10 ∷ [])
-
--- the end line in 25 bytes, zeros after it
-abbrev pub end_line_of : ℕ → EndLine
-end_line_of count = record { bytes = end_line count ++ replicate (25 - length (end_line count)) 0; len = length (end_line count) }

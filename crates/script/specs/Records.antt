@@ -17,7 +17,7 @@ kind_of (Write address value) = 2
 kind_of (FrontRead address) = 3
 kind_of (Digest address) = 4
 kind_of (ReadLock partition) = 5
-kind_of (Transition target high low) = 6
+kind_of (Transition target token) = 6
 kind_of PowerUp = 7
 
 -- any other kind
@@ -43,7 +43,7 @@ byte_at script at = get_or script at 0
 unfoldable pub little_endian_at : List ℕ → ℕ → ℕ → ℕ
 little_endian_at script at n = number 256 n (λ i. byte_at script (at + i))
 
--- the command of a known kind (7 where it is none of 1 to 6) whose body stands at `at`; the low half of a token comes first
+-- the command of a known kind (7 where it is none of 1 to 6) whose body stands at `at`
 unfoldable pub command_at : List ℕ → ℕ → ℕ → Command
 command_at script kind at =
     when eqb kind 1 then Read (little_endian_at script at 4)
@@ -51,7 +51,7 @@ command_at script kind at =
     else when eqb kind 3 then FrontRead (little_endian_at script at 4)
     else when eqb kind 4 then Digest (little_endian_at script at 4)
     else when eqb kind 5 then ReadLock (byte_at script at)
-    else when eqb kind 6 then Transition (byte_at script at) (little_endian_at script (at + 9) 8) (little_endian_at script (at + 1) 8)
+    else when eqb kind 6 then Transition (byte_at script at) (little_endian_at script (at + 1) 16)
     else PowerUp
 
 -- "0x11 unknown kind", "0x13 script record cut short", "0x14 script longer than 65,536 bytes"

@@ -1,40 +1,40 @@
 // The script's records and their reader, and the lines of the output.
 #![tactic(auto)]
 
-ghost use Rattle.std.specs.Prelude.{◌≡◌, ◌+◌, ◌≤◌, ◌<◌, length};
-ghost use Rattle.script.specs.Records.{kind_of, body_length, little_endian_at, command_at, refusal_code, next_at, place_after};
+ghost use Rattle.std.specs.Prelude.{◌≡◌, ◌+◌, ◌≤◌, ◌<◌, true, length, take, drop, MatchResult};
+ghost use Rattle.script.specs.Kinds.{number_of_kind, GivesKind};
+ghost use Rattle.script.specs.Records.{kind_of, unknown, body_length, little_endian_at, command_at, refusal_code, next_at, place_after};
 ghost use Rattle.script.specs.Reader.{reader_next, advanced_reader};
-ghost use Rattle.script.specs.Lines.{digit_byte, digits, line_of, decimal, end_line_of};
+ghost use Rattle.script.specs.Lines.{digit_byte, digits, line_of, decimal, end_line};
 
 use model::Command;
+use std::marker::Model;
 
-// The kinds of records.
-pub const READ: u8 = 1;
-
-pub const WRITE: u8 = 2;
-
-pub const FRONT_READ: u8 = 3;
-
-pub const DIGEST: u8 = 4;
-
-pub const READ_LOCK: u8 = 5;
-
-pub const TRANSITION: u8 = 6;
-
-pub const POWER_UP: u8 = 7;
+// The kinds of records, each with its number.
+#[derive(Clone, Copy, PartialEq, Eq, Debug)]
+pub enum RecordKind {
+    Read = 1,
+    Write = 2,
+    FrontRead = 3,
+    Digest = 4,
+    ReadLock = 5,
+    Transition = 6,
+    PowerUp = 7,
+}
 
 // The longest script that is read.
 pub const LONGEST: usize = 65536;
 
-// Why a script is not read on.
-#[derive(Clone, Copy)]
+// Why a script is not read on, each with its code.
+#[derive(Clone, Copy, PartialEq, Eq, Debug)]
 pub enum Refusal {
-    UnknownKind,
-    CutShort,
-    TooLong,
+    UnknownKind = 0x11,
+    CutShort = 0x13,
+    TooLong = 0x14,
 }
 
 // What stands at a place of a script: a record's command and the place after it, the end, or a refusal with its place.
+// Kept (fixed): the paper names this enum as the one that `let .. else` takes a record out of, in `run_record` and `place_after`.
 #[derive(Clone, Copy)]
 pub enum Reading {
     Record(Command, usize),
@@ -47,99 +47,120 @@ impl Refusal {
     pub fn code(self) -> u8
         ensures { result ≡ refusal_code self }
     {
+        self as u8
+    }
+}
+
+impl TryFrom<u8> for RecordKind {
+    type Error = Refusal;
+
+    ghost try_from_gives = { GivesKind };
+
+    #[tactic(auto, using(crate::proofs::RecordKinds::unknown_bytes))]
+    fn try_from(byte: u8) -> Result<RecordKind, Refusal> {
+        match byte {
+            1 => Ok(RecordKind::Read),
+            2 => Ok(RecordKind::Write),
+            3 => Ok(RecordKind::FrontRead),
+            4 => Ok(RecordKind::Digest),
+            5 => Ok(RecordKind::ReadLock),
+            6 => Ok(RecordKind::Transition),
+            7 => Ok(RecordKind::PowerUp),
+            _ => Err(Refusal::UnknownKind),
+        }
+    }
+}
+
+impl RecordKind {
+    // How many bytes follow it.
+    #[tactic(auto, using(crate::proofs::RecordKinds::body_lengths))]
+    fn body_length(self) -> usize
+        ensures { result ≡ body_length (number_of_kind self) }
+    {
         match self {
-            Refusal::UnknownKind => 0x11,
-            Refusal::CutShort => 0x13,
-            Refusal::TooLong => 0x14,
+            RecordKind::Read | RecordKind::FrontRead | RecordKind::Digest => 4,
+            RecordKind::Write => 12,
+            RecordKind::ReadLock => 1,
+            RecordKind::Transition => 17,
+            RecordKind::PowerUp => 0,
         }
     }
 }
 
 // The kind of a command's record.
-pub fn kind_of(command: Command) -> u8
-    ensures { result ≡ kind_of command }
+pub fn kind_of(command: Command) -> RecordKind
+    ensures { number_of_kind result ≡ kind_of command }
 {
     match command {
-        Command::Read(_) => READ,
-        Command::Write(_, _) => WRITE,
-        Command::FrontRead(_) => FRONT_READ,
-        Command::Digest(_) => DIGEST,
-        Command::ReadLock(_) => READ_LOCK,
-        Command::Transition(_, _, _) => TRANSITION,
-        Command::PowerUp => POWER_UP,
+        Command::Read(_) => RecordKind::Read,
+        Command::Write(_, _) => RecordKind::Write,
+        Command::FrontRead(_) => RecordKind::FrontRead,
+        Command::Digest(_) => RecordKind::Digest,
+        Command::ReadLock(_) => RecordKind::ReadLock,
+        Command::Transition(_, _) => RecordKind::Transition,
+        Command::PowerUp => RecordKind::PowerUp,
     }
 }
 
-// How many bytes follow a known kind.
-fn body_length(kind: u8) -> usize
-    ensures { result ≡ body_length kind }
+// The bytes from `at` on, as many as are asked for.
+fn bytes_at<const N: usize>(script: &[u8], at: usize) -> [u8; N]
+    requires { at + N ≤ length script.now }
+    ensures { result ≡ take N (drop at script.now) }
 {
-    match kind {
-        READ => 4,
-        WRITE => 12,
-        FRONT_READ => 4,
-        DIGEST => 4,
-        READ_LOCK => 1,
-        TRANSITION => 17,
-        _ => 0,
-    }
+    *script[at..].first_chunk().unwrap()
 }
 
-// Casts whose results are known to be small.
-fn wide(byte: u8) -> u32
-    ensures { (result ≡ byte) × (result < 256) }
-{
-    byte as u32
-}
-
-fn wider(half: u32) -> u64
-    ensures { (result ≡ half) × (result < 4294967296) }
-{
-    half as u64
-}
-
-// The number of the four bytes from `at` on.
-fn four_at(script: &[u8], at: usize) -> u32
+// The address that stands at `at`.
+#[tactic(auto, using(crate::proofs::Numbers::numbers))]
+fn address_at(script: &[u8], at: usize) -> u32
     requires { at + 4 ≤ length script.now }
     ensures { result ≡ little_endian_at script.now at 4 }
 {
-    wide(script[at])
-        + 256 * wide(script[at + 1])
-        + 65536 * wide(script[at + 2])
-        + 16777216 * wide(script[at + 3])
+    u32::from_le_bytes(bytes_at(script, at))
 }
 
-// The number of the eight bytes from `at` on.
-fn eight_at(script: &[u8], at: usize) -> u64
-    requires { at + 8 ≤ length script.now }
-    ensures { result ≡ little_endian_at script.now at 8 }
-{
-    wider(four_at(script, at)) + 4294967296 * wider(four_at(script, at + 4))
-}
-
-// The command of a known kind whose body stands at `at`. The low half of a token comes first.
-fn command_at(script: &[u8], kind: u8, at: usize) -> Command
-    requires { at + body_length kind ≤ length script.now }
-    ensures { result ≡ command_at script.now kind at }
+// The command of a kind whose body stands at `at`.
+#[tactic(auto, using(crate::proofs::Numbers::numbers, crate::proofs::RecordKinds::commands, crate::proofs::RecordKinds::body_lengths))]
+fn command_at(script: &[u8], kind: RecordKind, at: usize) -> Command
+    requires { at + body_length (number_of_kind kind) ≤ length script.now }
+    ensures { result ≡ command_at script.now (number_of_kind kind) at }
 {
     match kind {
-        READ => Command::Read(four_at(script, at)),
-        WRITE => Command::Write(four_at(script, at), eight_at(script, at + 4)),
-        FRONT_READ => Command::FrontRead(four_at(script, at)),
-        DIGEST => Command::Digest(four_at(script, at)),
-        READ_LOCK => Command::ReadLock(script[at]),
-        TRANSITION => {
-            Command::Transition(
-                script[at],
-                eight_at(script, at + 9),
-                eight_at(script, at + 1),
+        RecordKind::Read => Command::Read(address_at(script, at)),
+        RecordKind::Write => {
+            Command::Write(
+                address_at(script, at),
+                u64::from_le_bytes(bytes_at(script, at + 4)),
             )
         }
-        _ => Command::PowerUp,
+        RecordKind::FrontRead => Command::FrontRead(address_at(script, at)),
+        RecordKind::Digest => Command::Digest(address_at(script, at)),
+        RecordKind::ReadLock => Command::ReadLock(script[at]),
+        RecordKind::Transition => {
+            Command::Transition(script[at], u128::from_le_bytes(bytes_at(script, at + 1)))
+        }
+        RecordKind::PowerUp => Command::PowerUp,
     }
 }
 
+// The command of the record at a place, and the place after it.
+#[tactic(auto, using(crate::proofs::Records::inside_tests))]
+fn record_at(script: &[u8], place: usize) -> Result<(Command, usize), Refusal>
+    requires short { length script.now ≤ LONGEST }
+    requires inside { place < length script.now }
+    ensures { MatchResult result (λ found. next_at script.now place ≡ Reading.Record found.0 found.1)
+        (λ refusal. next_at script.now place ≡ Reading.Refused refusal place) }
+{
+    let kind = RecordKind::try_from(script[place])?;
+    let next = place + 1 + kind.body_length();
+    if script.len() < next {
+        return Err(Refusal::CutShort);
+    }
+    Ok((command_at(script, kind, place + 1), next))
+}
+
 // What stands at a place of a script.
+#[tactic(auto, using(crate::proofs::Records::outside))]
 fn next_at(script: &[u8], place: usize) -> Reading
     ensures { result ≡ next_at script.now place }
 {
@@ -149,15 +170,10 @@ fn next_at(script: &[u8], place: usize) -> Reading
     if script.len() <= place {
         return Reading::End;
     }
-    let kind = script[place];
-    if (kind == 0) | (POWER_UP < kind) {
-        return Reading::Refused(Refusal::UnknownKind, place);
+    match record_at(script, place) {
+        Ok((command, next)) => Reading::Record(command, next),
+        Err(refusal) => Reading::Refused(refusal, place),
     }
-    let next = place + 1 + body_length(kind);
-    if script.len() < next {
-        return Reading::Refused(Refusal::CutShort, place);
-    }
-    Reading::Record(command_at(script, kind, place + 1), next)
 }
 
 // The place after the record at a place: neither the end nor a refusal moves it.
@@ -171,6 +187,7 @@ fn place_after(script: &[u8], place: usize) -> usize
 }
 
 // A script and a place in it.
+// Kept (fixed): no `Iterator`, since "a refusal doesn't move the place" (`place_after`): its `next` would give the same refusal without end.
 #[derive(Clone, Copy)]
 pub struct Reader<'a> {
     pub script: &'a [u8],
@@ -189,15 +206,15 @@ impl<'a> Reader<'a> {
     pub fn advanced(self) -> Reader<'a>
         ensures { result ≡ advanced_reader self.entry }
     {
-        let place = place_after(self.script, self.place);
         Reader {
-            script: self.script,
-            place,
+            place: place_after(self.script, self.place),
+            ..self
         }
     }
 }
 
-// What a reader at a place of a script answers. Its parameters are plain, so that the checker itself proves callers.
+// What a reader at a place of a script answers.
+// Kept (fixed): docs/ name it as the one way of reading; its promise is its own (edit `read_at_the_start`).
 pub fn read_at(script: &[u8], place: usize) -> Reading
     ensures { result ≡ next_at script.now place }
 {
@@ -205,23 +222,28 @@ pub fn read_at(script: &[u8], place: usize) -> Reading
 }
 
 // The byte of a digit: 0 to 9, then a to f.
+#[tactic(auto, using(crate::proofs::Digits::digit_bytes))]
 fn digit_byte(digit: u64) -> u8
     requires { digit < 16 }
     ensures { result ≡ digit_byte digit }
 {
-    let d = digit as u8;
-    if d < 10 { b'0' + d } else { b'a' + (d - 10) }
+    let digit = digit as u8;
+    if digit < 10 {
+        b'0' + digit
+    } else {
+        b'a' + (digit - 10)
+    }
 }
 
 // Writes the lowest digits of x over a part, the highest first, as many as fit.
+// Kept (proof): `write!` says what it wrote only where it answers `Ok`, which nothing promises, and a line can't fail.
 fn put_digits(part: &mut [u8], base: u64, x: u64)
     requires { (0 < base) × (base ≤ 16) }
     ensures { part.new ≡ digits base (length part.old) x }
 {
-    let mut i = part.len();
     let mut rest = x;
-    while 0 < i {
-        i -= 1;
+    // Kept (proof): after a loop over `part.iter_mut().rev()` a proof knows no element.
+    for i in (0..part.len()).rev() {
         part[i] = digit_byte(rest % base);
         rest /= base;
     }
@@ -232,43 +254,65 @@ pub fn line(kind: u8, code: u8, value: u64) -> [u8; 23]
     ensures { result ≡ line_of kind code value }
 {
     let mut line = [b' '; 23];
-    put_digits(&mut line[0..2], 16, kind as u64);
-    put_digits(&mut line[3..5], 16, code as u64);
+    put_digits(&mut line[0..2], 16, u64::from(kind));
+    put_digits(&mut line[3..5], 16, u64::from(code));
     put_digits(&mut line[6..22], 16, value);
     line[22] = b'\n';
     line
 }
 
 // How many decimal digits a number has.
+#[tactic(auto, using(crate::proofs::Decimal::decimal_lengths))]
 fn decimal_length(x: u64) -> usize
-    ensures { result ≡ length (decimal 20 x) }
+    ensures length { result ≡ length (decimal 20 x) }
+    ensures few { result ≤ 20 }
 {
-    let mut n = 1;
-    let mut rest = x;
-    while 10 <= rest {
-        rest /= 10;
-        n += 1;
-    }
-    n
+    x.checked_ilog10().map_or(1, |power| power as usize + 1)
 }
 
-// The end line: its bytes come first, then zeros.
+// The end line, with space for the longest: zeros behind its bytes.
 #[derive(Clone, Copy)]
 pub struct EndLine {
-    pub bytes: [u8; 25],
-    pub len: usize,
+    bytes: [u8; 25],
+    len: usize,
+}
+
+// Clauses see its bytes.
+impl Model for EndLine {
+    ghost use Rattle.std.specs.Prelude.{◌≡◌, ℕ, ◌-◌, ◌≤◌, List, ◌++◌, length, take, replicate};
+    ghost use Rattle.std.proofs.Common.{arith, length-take-le};
+
+    ghost Value = { List ℕ };
+
+    ghost view = { λ line. take line.len line.bytes };
+
+    ghost invariant = { λ line. (line.len ≤ 25) × (length line.bytes ≡ 25)
+        × (take line.len line.bytes ++ replicate (25 - line.len) 0 ≡ line.bytes) };
+
+    ghost inverse = { λ bytes. record { bytes = bytes ++ replicate (25 - length bytes) 0; len = length bytes } };
+
+    ghost inverse_ok = { λ line h i.
+        let long = length-take-le line.len line.bytes (omega (arith, h.0, h.1)) in
+        let whole : take line.len line.bytes ++ replicate (25 - length (take line.len line.bytes)) 0 ≡ line.bytes = rw long h.2 in
+        record { bytes = whole i; len = long i } };
+}
+
+impl EndLine {
+    // Its bytes.
+    pub fn as_bytes(&self) -> &[u8]
+        ensures { result.now ≡ self.now }
+    {
+        &self.bytes[..self.len]
+    }
 }
 
 // The end line of a count of lines.
 pub fn end_line(count: u64) -> EndLine
-    ensures { result ≡ end_line_of count }
+    ensures { result ≡ end_line count }
 {
-    let mut bytes = [0u8; 25];
-    bytes[0] = b'e';
-    bytes[1] = b'n';
-    bytes[2] = b'd';
-    bytes[3] = b' ';
+    let mut bytes = [0; 25];
     let end = 4 + decimal_length(count);
+    bytes[..4].copy_from_slice(b"end ");
     put_digits(&mut bytes[4..end], 10, count);
     bytes[end] = b'\n';
     EndLine {

@@ -1,27 +1,19 @@
 // Keccak-f[1600], SHAKE128, cSHAKE128 and the hash of a token. A line for each: what it is, and the lanes, the bytes or the number in hex.
-ghost use Rattle.std.specs.Prelude.{◌≡◌, length};
-
-use crate::print_text;
-use std::io;
-
-fn wide(x: u8) -> u64 {
-    x as u64
-}
+use std::{array, io};
 
 fn print_bytes(rt: &impl Print, bytes: &[u8]) -> io::Result<()> {
     for byte in bytes {
-        let number = wide(*byte);
-        print!(rt; "{number:02x}")?;
+        print!(rt; "{byte:02x}")?;
     }
-    print_text(rt, "\n")
+    println!(rt)
 }
 
 fn show_lanes(rt: &impl Print, what: &str, lanes: &[u64; 25]) -> io::Result<()> {
-    print_text(rt, what)?;
+    print!(rt; "{what}")?;
     for lane in lanes {
         print!(rt; " {lane:016x}")?;
     }
-    print_text(rt, "\n")
+    println!(rt)
 }
 
 // The zero state permuted once, and twice.
@@ -35,7 +27,7 @@ fn show_permutation(rt: &impl Print) -> io::Result<()> {
 // SHAKE128, as many bytes as the buffer has.
 fn show_shake(rt: &impl Print, what: &str, message: &[u8], out: &mut [u8]) -> io::Result<()> {
     cshake::shake128(message, out);
-    print_text(rt, what)?;
+    print!(rt; "{what}")?;
     print_bytes(rt, out)
 }
 
@@ -43,36 +35,22 @@ fn show_shake(rt: &impl Print, what: &str, message: &[u8], out: &mut [u8]) -> io
 fn show_sample(rt: &impl Print, what: &str, message: &[u8]) -> io::Result<()> {
     let mut out = [0; 32];
     cshake::cshake128(b"", b"Email Signature", message, &mut out);
-    print_text(rt, what)?;
+    print!(rt; "{what}")?;
     print_bytes(rt, &out)
 }
 
-// The bytes 00 to c7.
-fn counted() -> [u8; 200]
-    ensures { length result ≡ 200 }
-{
-    let mut out = [0; 200];
-    for i in 0..200 {
-        out[i] = i as u8;
-    }
-    out
-}
-
 fn show_token(rt: &impl Print) -> io::Result<()> {
-    let hash = token_hash::hash_of(0, 0);
-    let high = hash.high;
-    let low = hash.low;
-    println!(rt; "token of zeros: {high:016x}{low:016x}")
+    let hash = token_hash::hash_of(0);
+    println!(rt; "token of zeros: {hash:032x}")
 }
 
 pub(crate) fn show_all(rt: &impl Print) -> io::Result<()> {
-    let message = counted();
-    let mut short = [0; 32];
-    let mut long = [0; 64];
+    // The bytes 00 to c7.
+    let counted: [u8; 200] = array::from_fn(|i| i as u8);
     show_permutation(rt)?;
-    show_shake(rt, "SHAKE128, empty message: ", b"", &mut short)?;
-    show_shake(rt, "SHAKE128, 200 bytes a3: ", &[0xa3; 200], &mut long)?;
+    show_shake(rt, "SHAKE128, empty message: ", b"", &mut [0; 32])?;
+    show_shake(rt, "SHAKE128, 200 bytes a3: ", &[0xa3; 200], &mut [0; 64])?;
     show_sample(rt, "cSHAKE128, sample 1: ", b"\x00\x01\x02\x03")?;
-    show_sample(rt, "cSHAKE128, sample 2: ", &message)?;
+    show_sample(rt, "cSHAKE128, sample 2: ", &counted)?;
     show_token(rt)
 }

@@ -9,42 +9,27 @@ ghost use Rattle.std.specs.Prelude.{◌≡◌};
 use std::io;
 
 // A block encrypted and decrypted again. That it is the block is proved, whatever the key.
-fn round_trip(key_high: u64, key_low: u64, block: u64) -> u64
+fn round_trip(key: u128, block: u64) -> u64
     ensures { result ≡ block }
 {
-    let encrypted = present::encrypt(key_high, key_low, block);
-    let decrypted = present::decrypt(key_high, key_low, encrypted);
+    let encrypted = present::encrypt(key, block);
+    let decrypted = present::decrypt(key, encrypted);
     prove!(decrypted == block);
     decrypted
 }
 
-fn print_word(rt: &impl Print, n: u64) -> io::Result<()> {
-    print!(rt; "{n:016x}")
-}
-
-pub(crate) fn print_text(rt: &impl Print, text: &str) -> io::Result<()> {
-    rt.print(text)
-}
-
-fn show(rt: &impl Print, key_high: u64, key_low: u64, block: u64) -> io::Result<()> {
-    print_word(rt, key_high)?;
-    print_word(rt, key_low)?;
-    print_text(rt, " ")?;
-    print_word(rt, block)?;
-    print_text(rt, " ")?;
-    print_word(rt, present::encrypt(key_high, key_low, block))?;
-    print_text(rt, " ")?;
-    print_word(rt, round_trip(key_high, key_low, block))?;
-    print_text(rt, "\n")
+fn show(rt: &impl Print, key: u128, block: u64) -> io::Result<()> {
+    let encrypted = present::encrypt(key, block);
+    let decrypted = round_trip(key, block);
+    println!(rt; "{key:032x} {block:016x} {encrypted:016x} {decrypted:016x}")
 }
 
 fn main(rt: HostRuntime) -> io::Result<()> {
-    let ones = 0xffff_ffff_ffff_ffff;
     let counted = 0x0123_4567_89ab_cdef;
-    show(&rt, 0, 0, 0)?;
-    show(&rt, 0, 0, ones)?;
-    show(&rt, ones, ones, 0)?;
-    show(&rt, ones, ones, ones)?;
-    show(&rt, counted, counted, counted)?;
+    show(&rt, 0, 0)?;
+    show(&rt, 0, u64::MAX)?;
+    show(&rt, u128::MAX, 0)?;
+    show(&rt, u128::MAX, u64::MAX)?;
+    show(&rt, 0x0123_4567_89ab_cdef_0123_4567_89ab_cdef, counted)?;
     hashes::show_all(&rt)
 }

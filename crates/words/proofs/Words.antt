@@ -74,7 +74,7 @@ unfolding number_of
 joined [] h l = refl
 joined (w ∷ ws) h l =
     let ih = joined ws (words_tail h) (omega arith) in
-    let small : number_of ws < 65536 ^ 3 = 
-        let n : length ws ≤ 3 = omega arith in lt_of_lt_of_le (number_lt ws (words_tail h)) (pow-le-pow_right {n = 65536} (omega arith) n) in
+    let small : number_of ws < 65536 ^ 3 =
+    let n : length ws ≤ 3 = omega arith in lt_of_lt_of_le (number_lt ws (words_tail h)) (pow-le-pow_right {n = 65536} (omega arith) n) in
     let fits : number_of ws * 65536 % 2 ^ 64 ≡ number_of ws * 65536 = mod-eq_of_lt (omega arith) in
     rw (reverse-cons w ws, fold-append, ih, fits) (or_shifted (number_of ws) 16 w (h.small 0) ∙ omega arith)

@@ -35,7 +35,10 @@ pub fn join(words: &[u16]) -> u64
     ensures { result ≡ number_of (take 4 words.now) }
 {
     let lowest = &words[..words.len().min(4)];
-    lowest.iter().rev().fold(0, |x, word| (x << 16) | u64::from(*word))
+    lowest
+        .iter()
+        .rev()
+        .fold(0, |x, word| (x << 16) | u64::from(*word))
 }
 
 // The number of the four words from `at` on, zeros past the last word.
@@ -75,7 +78,9 @@ fn refuses(rule: Rule, stored: u16, value: u16) -> bool
 fn lowest_refusing(rule: Rule, part: &[u16], value: &[u16]) -> Option<usize>
     ensures { result ≡ position (λ (stored, word). refuses rule stored word) (zip part.now value.now) }
 {
-    part.iter().zip(value).position(|(stored, word)| refuses(rule, *stored, *word))
+    part.iter()
+        .zip(value)
+        .position(|(stored, word)| refuses(rule, *stored, *word))
 }
 
 // Programs a part with a value of as many words: all are tested before one changes.

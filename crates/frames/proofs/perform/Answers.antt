@@ -1,21 +1,12 @@
--- No record: the reading decides. A record: what `execute` made, with the code and the value of its answer.
+-- The reading is that of the definition, and the outcome the model's.
 use mathlib.Core.Path.{sym, ◌∙◌}
 use Rattle.partitions.specs.Maps.{map_of}
 use Rattle.chip.specs.Chip.{lent_of, machine_of, result_of}
-use Rattle.frames.specs.Frames.{step_of}
-use Rattle.frames.proofs.Steps.{step-refused, step-done}
+use Rattle.frames.proofs.Steps.{step-done, step-ended, step-refused}
 use Rattle.frames.proofs.perform.Goals as goal
 
-pub returns-in_default : goal.returns-in_default
-unfolding step_of
-returns-in_default c =
-    let o = c.args in
-    let n = c.read_at-reading.result in
-    rw (c.refused.ensures, ← c.read_at-reading.ensures)
-    (step-refused (map_of o.map) n (lent_of o.cells.now o.copy.now o.constants.now) o.session c.in_default.not-Record)
-
-pub returns : goal.returns
-returns c =
+pub returns-in-Record : goal.returns-in-Record
+returns-in-Record c =
     let o = c.args in
     step-done
     (map_of o.map)
@@ -24,9 +15,27 @@ returns c =
     c.in-Record.command
     _
     (result_of (lent_of c.execute-outcome.new.cells c.execute-outcome.new.copy o.constants.now) c.execute-outcome.result)
-    c.code-code.result
-    c.value-value.result
-    (sym c.read_at-reading.ensures ∙ c.in-Record.is)
+    c.code.result
+    c.value.result
+    (sym c.read_at.ensures ∙ c.in-Record.is)
     c.execute-outcome.ensures
-    c.code-code.ensures
-    c.value-value.ensures
+    c.code.ensures
+    c.value.ensures
+
+pub returns-in-End : goal.returns-in-End
+returns-in-End c =
+    let o = c.args in
+    step-ended (map_of o.map) o.script.now (machine_of (lent_of o.cells.now o.copy.now o.constants.now) o.session) (sym c.read_at.ensures ∙ c.in-End.is)
+
+pub returns-in-Refused : goal.returns-in-Refused
+returns-in-Refused c =
+    let o = c.args in
+    step-refused
+    (map_of o.map)
+    o.script.now
+    (machine_of (lent_of o.cells.now o.copy.now o.constants.now) o.session)
+    c.in-Refused.refusal
+    c.in-Refused.at
+    c.code-in-Refused.result
+    (sym c.read_at.ensures ∙ c.in-Refused.is)
+    c.code-in-Refused.ensures

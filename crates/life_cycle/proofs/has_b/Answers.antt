@@ -1,5 +1,6 @@
 -- Each arm settles the definition's tests on the state.
-use mathlib.Core.Path.{sym, ◌∙◌}
+use mathlib.Core.Path.{sym, ap, ◌∙◌}
+use lib.Dec.{ltb}
 use Prim.Native.Nat.{◌<◌}
 use borrow.Author.Tests.{le-leb, lt-leb, ne_eqb}
 use native.Mathlib.Omega.{arith}
@@ -26,7 +27,7 @@ returns-in-19 c = rw c.in-19.is
 
 pub returns-in-0-to-15 : goal.returns-in-0-to-15
 unfolding has_b
-returns-in-0-to-15 c = sym (if-true _ _ (le-leb c.args.state 15 (omega arith)))
+returns-in-0-to-15 c = ap (ltb c.args.i) c.from.ensures ∙ sym (if-true _ _ (le-leb c.args.state 15 (omega arith)))
 
 pub returns-in_default : goal.returns-in_default
 unfolding has_b

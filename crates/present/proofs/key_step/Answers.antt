@@ -9,5 +9,5 @@ pub returns : goal.returns
 unfolding key_step
 returns c =
     let moved = c.top_substituted.ensures ∙ ap substitute_top (c.rotate_left.ensures ∙ rotated c.args.key c.ranges.key.fits) in
-    let number : c.from.result * 2 ^ 62 % 2 ^ 128 ≡ c.args.round * 2 ^ 62 = omega arith in
+    let number : c.args.round * 2 ^ 62 % 2 ^ 128 ≡ c.args.round * 2 ^ 62 = omega arith in
     ap₂ bit_xor moved number

@@ -10,4 +10,4 @@ slice_bounds-line-end-3 c = rw (c.put_digits-2.ensures, c.put_digits.ensures) (o
 pub returns : goal.returns
 unfolding digits line_of
 returns c =
-    rw (c.put_digits-3.ensures, c.put_digits-2.ensures, c.put_digits.ensures)
+    rw (c.put_digits-3.ensures, c.put_digits-2.ensures, c.put_digits.ensures, c.from-2.ensures, c.from.ensures)

@@ -7,4 +7,4 @@ use Rattle.frames.specs.Bytes.{all_bytes}
 use Rattle.frames.proofs.numbers.put_words.Given as goal
 
 abbrev pub invariant-loop-i : goal.invariant-loop-i
-invariant-loop-i l = (l.i ≤ length l.words) × (l.part ≡ take (2 * l.i) (all_bytes 2 l.words) ++ drop (2 * l.i) l.initial.part)
+invariant-loop-i l = (l.i ≤ length l.words) × (l.part ≡ all_bytes 2 (take l.i l.words) ++ drop (2 * l.i) l.initial.part)

@@ -4,10 +4,10 @@ use Prim.Native.Nat.{◌+◌, ◌-◌, ◌*◌, ◌≤◌}
 use native.Mathlib.Omega.{arith}
 use lib.Dec.{lit≤}
 use lib.ListN.{length}
-use Rattle.frames.specs.Bytes.{all_bytes, zeros}
+use Rattle.frames.specs.Bytes.{all_bytes}
 use Rattle.frames.specs.Frames.{with_memory}
-use Rattle.frames.proofs.Bytes.{zeros-length, all-length}
-use Rattle.frames.proofs.Parts.{unwritten, then-part, then-filled}
+use Rattle.frames.proofs.Bytes.{all-length}
+use Rattle.frames.proofs.Parts.{unwritten, then-part, then-zeros}
 use Rattle.frames.proofs.writing.put_memory.Goals as goal
 
 pub returns : goal.returns
@@ -23,6 +23,6 @@ returns c =
     let within : end ≤ 5120 = omega arith in
     let order' : 2204 ≤ end' = omega arith in
     let within' : end' ≤ 5120 = omega arith in
-    let first = then-part (unwritten c.requires.0) 144 end order within c.put_words.new.part (all_bytes 2 cells) n c.put_words.ensures in
+    let first = then-part (unwritten c.told-frame) 144 end order within c.put_words.new.part (all_bytes 2 cells) n c.put_words.ensures in
     let second = then-part first 2204 end' order' within' c.put_words-2.new.part (all_bytes 2 copy) n' c.put_words-2.ensures in
-    (then-filled second 4884 5120 (lit≤ tt) (lit≤ tt) zeros c.clear.new.part zeros-length c.clear.ensures).same
+    (then-zeros second 4884 5120 (lit≤ tt) (lit≤ tt) c.fill.new.self (c.fill.ensures.after (λ y e. e))).same
