@@ -74,9 +74,9 @@ module _ (map : Map) (m : Machine) (a : ℕ) where
   reached-at q r =
       by_place (λ f e. let z = not-admitted f e in cc) (λ e h. let z = past-map e h in cc)
       (λ e h.
-        let z = in_map e h in
-        let t = accepts map (sizes_of m.lent) m.lent.constants (admitted map (sizes_of m.lent) m.lent.constants m.session.phase e).0 in
-        record { admitted-there = e; within = h; found = cc; cells-held = t.cells_right; copy-held = t.copy-right })
+      let z = in_map e h in
+      let t = accepts map (sizes_of m.lent) m.lent.constants (admitted map (sizes_of m.lent) m.lent.constants m.session.phase e).0 in
+      record { admitted-there = e; within = h; found = cc; cells-held = t.cells_right; copy-held = t.copy-right })
 
   -- the granule lies in cells and copy, the data words in the cells
   pub record Held (p : Partition) : Type 0 where

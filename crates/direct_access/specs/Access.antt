@@ -16,7 +16,7 @@ use Rattle.direct_access.specs.declared.Place.{Place}
 unfoldable pub reached : Map → Machine → ℕ → Result Place Failure
 reached map m a =
     elim (admission map (sizes_of m.lent) m.lent.constants m.session.phase) [
-      Some failure ↦ Err failure
+      | Some failure ↦ Err failure
       | None ↦ when leb (limit map) a then Err Denied else Ok (record { number = number_at map a; partition = partition_at map a })
     ]
 

@@ -24,7 +24,13 @@ struct Place {
 
 // What every command on an address tests first, in the paper's order: what is lent, the phase, the address.
 #[tactic(auto, using(crate::proofs::Places::places), unfolding(partitions::specs::Map::partition_at))]
-fn reach(chip: Chip<'_>, cells: &[u16], copy: &[u16], session: Session, address: usize) -> Result<Place, Failure>
+fn reach(
+    chip: Chip<'_>,
+    cells: &[u16],
+    copy: &[u16],
+    session: Session,
+    address: usize,
+) -> Result<Place, Failure>
     ensures { result ≡ reached (map_of chip.entry.map) (machine_of (lent_of cells.now copy.now chip.entry.constants.now) session) address }
 {
     chip.admit(sizes_of(cells, copy), session.phase)?;
@@ -120,7 +126,13 @@ fn programmed(rule: Rule, cells: &mut [u16], at: usize, words: &[u16], value: u6
 }
 
 // The answer to a read.
-fn read_answer(chip: Chip<'_>, cells: &[u16], copy: &[u16], session: Session, address: usize) -> Answer
+fn read_answer(
+    chip: Chip<'_>,
+    cells: &[u16],
+    copy: &[u16],
+    session: Session,
+    address: usize,
+) -> Answer
     ensures { Answers (map_of chip.entry.map) (Command.Read address) session (lent_of cells.now copy.now chip.entry.constants.now)
         (lent_of cells.now copy.now chip.entry.constants.now) result }
 {
@@ -143,12 +155,23 @@ pub fn read(chip: Chip<'_>, cells: &[u16], copy: &[u16], session: Session, addre
 }
 
 // Programs the granule of an address, and answers 0.
-fn write_answer(chip: Chip<'_>, cells: &mut [u16], copy: &[u16], session: Session, address: usize, value: u64) -> Answer
+fn write_answer(
+    chip: Chip<'_>,
+    cells: &mut [u16],
+    copy: &[u16],
+    session: Session,
+    address: usize,
+    value: u64,
+) -> Answer
     ensures { Answers (map_of chip.entry.map) (Command.Write address value) session (lent_of cells.old copy.now chip.entry.constants.now)
         (lent_of cells.new copy.now chip.entry.constants.now) result }
 {
     let place = reach(chip, &cells[..], copy, session, address)?;
-    if write_denied(session.sensed_locked(place.number), place.partition, address) {
+    if write_denied(
+        session.sensed_locked(place.number),
+        place.partition,
+        address,
+    ) {
         return Err(Failure::Denied);
     }
     let granule = place.partition.granule_at(address);
@@ -158,7 +181,14 @@ fn write_answer(chip: Chip<'_>, cells: &mut [u16], copy: &[u16], session: Sessio
 }
 
 // Write: programs the granule of an address, if its words take the value by the rule of the place; a 4-byte granule uses the low half of the value.
-pub fn write(chip: Chip<'_>, cells: &mut [u16], copy: &[u16], session: Session, address: u32, value: u64) -> Outcome
+pub fn write(
+    chip: Chip<'_>,
+    cells: &mut [u16],
+    copy: &[u16],
+    session: Session,
+    address: u32,
+    value: u64,
+) -> Outcome
     ensures { Executes (map_of chip.entry.map) (Command.Write address value) session (lent_of cells.old copy.now chip.entry.constants.now)
         (lent_of cells.new copy.now chip.entry.constants.now) result }
 {
@@ -167,7 +197,13 @@ pub fn write(chip: Chip<'_>, cells: &mut [u16], copy: &[u16], session: Session, 
 }
 
 // The answer to a front read.
-fn front_read_answer(chip: Chip<'_>, cells: &[u16], copy: &[u16], session: Session, address: usize) -> Answer
+fn front_read_answer(
+    chip: Chip<'_>,
+    cells: &[u16],
+    copy: &[u16],
+    session: Session,
+    address: usize,
+) -> Answer
     ensures { Answers (map_of chip.entry.map) (Command.FrontRead address) session (lent_of cells.now copy.now chip.entry.constants.now)
         (lent_of cells.now copy.now chip.entry.constants.now) result }
 {
@@ -179,7 +215,13 @@ fn front_read_answer(chip: Chip<'_>, cells: &[u16], copy: &[u16], session: Sessi
 }
 
 // Front read: the granule of an address in data of the kind HW_CFG, in the sensed copy.
-pub fn front_read(chip: Chip<'_>, cells: &[u16], copy: &[u16], session: Session, address: u32) -> Outcome
+pub fn front_read(
+    chip: Chip<'_>,
+    cells: &[u16],
+    copy: &[u16],
+    session: Session,
+    address: u32,
+) -> Outcome
     ensures { Executes (map_of chip.entry.map) (Command.FrontRead address) session (lent_of cells.now copy.now chip.entry.constants.now)
         (lent_of cells.now copy.now chip.entry.constants.now) result }
 {
@@ -188,20 +230,42 @@ pub fn front_read(chip: Chip<'_>, cells: &[u16], copy: &[u16], session: Session,
 }
 
 // Programs a digest, and answers it.
-fn digest_answer(chip: Chip<'_>, cells: &mut [u16], copy: &[u16], session: Session, address: usize) -> Answer
+fn digest_answer(
+    chip: Chip<'_>,
+    cells: &mut [u16],
+    copy: &[u16],
+    session: Session,
+    address: usize,
+) -> Answer
     ensures { Answers (map_of chip.entry.map) (Command.Digest address) session (lent_of cells.old copy.now chip.entry.constants.now)
         (lent_of cells.new copy.now chip.entry.constants.now) result }
 {
     let place = reach(chip, &cells[..], copy, session, address)?;
-    if digest_denied(session.sensed_locked(place.number), place.partition, address) {
+    if digest_denied(
+        session.sensed_locked(place.number),
+        place.partition,
+        address,
+    ) {
         return Err(Failure::Denied);
     }
     let value = chip.computed_digest(&cells[..], place.partition);
-    programmed(Rule::BlankOnly, cells, place.partition.digest / 2, &words::split(value), value)
+    programmed(
+        Rule::BlankOnly,
+        cells,
+        place.partition.digest / 2,
+        &words::split(value),
+        value,
+    )
 }
 
 // Digest: computed over the stored data words of the partition that starts at the address, programmed if its location is blank, and answered.
-pub fn digest(chip: Chip<'_>, cells: &mut [u16], copy: &[u16], session: Session, address: u32) -> Outcome
+pub fn digest(
+    chip: Chip<'_>,
+    cells: &mut [u16],
+    copy: &[u16],
+    session: Session,
+    address: u32,
+) -> Outcome
     ensures { Executes (map_of chip.entry.map) (Command.Digest address) session (lent_of cells.old copy.now chip.entry.constants.now)
         (lent_of cells.new copy.now chip.entry.constants.now) result }
 {
@@ -211,7 +275,13 @@ pub fn digest(chip: Chip<'_>, cells: &mut [u16], copy: &[u16], session: Session,
 
 // Read lock: of a partition whose kind has one, until the next power-up.
 #[tactic(auto, using(crate::proofs::ReadLock::locks))]
-pub fn read_lock(chip: Chip<'_>, cells: &[u16], copy: &[u16], session: Session, partition: u8) -> Outcome
+pub fn read_lock(
+    chip: Chip<'_>,
+    cells: &[u16],
+    copy: &[u16],
+    session: Session,
+    partition: u8,
+) -> Outcome
     ensures { Executes (map_of chip.entry.map) (Command.ReadLock partition) session (lent_of cells.now copy.now chip.entry.constants.now)
         (lent_of cells.now copy.now chip.entry.constants.now) result }
 {
