@@ -5,88 +5,90 @@ use mathlib.Core.List.{List}
 use Prim.Native.Nat.{ℕ, ◌+◌, ◌-◌, ◌*◌, ◌/◌, ◌%◌, ◌^◌, ◌<◌}
 use native.Mathlib.Nat.{mod-lt}
 use native.Mathlib.Omega.{arith}
-use lib.Bits.{bit_and, bit_xor, xor_lt}
+use lib.Bits.{bit_and, bit_xor}
+use Rattle.std.specs.Int.{w64, bit_not, rotate_left}
 use lib.Dec.{eqb, lit<}
 use lib.ListN.{length, get_or, set, length-set}
 use lib.Seq.{get_or-set_same, get_or-set_other}
 use borrow.Author.Tests.{eqb-true, eqb-false}
-use Rattle.basics.specs.Range.{listed, sum}
-use Rattle.basics.specs.Digits.{bit}
+use Rattle.basics.specs.Range.{sum}
 use Rattle.basics.proofs.Choice.{by_cases, not-passed, and_left, and_right, if-true, if-false}
 use Rattle.basics.proofs.Range.{listed_at, is-listed}
 use Rattle.basics.proofs.Digits.{digit_lt}
 use Rattle.keccak.specs.State.{bit_at, lane_of, state_of}
 use Rattle.keccak.specs.StepMappings.{column_parity, theta_bit, offset, rho_bit, pi_bit, chi_bit, register, rc, round_constant, iota_bit, iota}
 use Rattle.keccak.specs.Tables.{offsets, round_constants}
-use Rattle.keccak.specs.Rows.{Lanes}
-use Rattle.keccak.proofs.Lanes.{HasBits, ones-bits, own_bits, xor-bits, and-bits, is-lane, lane-bits, lane-at, changed, rotated-has}
-use Rattle.keccak.proofs.Rows.{lane_at}
+use Rattle.keccak.proofs.Lanes.{HasBits, Lanes, own_bits, xor-bits, and-bits, not-bits, rotated-bits, is-lane, lane-at, changed}
 
--- ---- theta
+-- ---- a state by its lanes
 
-parity-lt : (a : List ℕ) (x z : ℕ) → column_parity a x z < 2
-parity-lt a x z = add 4 (add 3 (add 2 (add 1 (digit_lt 2 (lit< tt) (get_or a (5 * 0 + x) 0) z))))
+-- lane k of the state with the bits f
+abbrev lane_at : (ℕ → ℕ → ℕ → ℕ) → ℕ → ℕ
+lane_at f k = lane_of (f (k % 5) (k / 5))
+
+pub is-state : (f : ℕ → ℕ → ℕ → ℕ) {state : List ℕ} → length state ≡ 25
+    → ((x y : ℕ) → x < 5 → y < 5 → get_or state (5 * y + x) 0 ≡ lane_of (f x y)) → state ≡ state_of f
+unfolding state_of
+is-state f {state} size lane = is-listed (lane_at f) 25 state size (λ k h. place k ∙ lane (k % 5) (k / 5) (omega arith) (omega arith))
   where
-    add : (y : ℕ) {b : ℕ} → b < 2 → bit_xor b (bit_at a x y z) < 2
-    add y {b} l = xor_lt 1 b _ l (digit_lt 2 (lit< tt) (get_or a (5 * y + x) 0) z)
+    place : (k : ℕ) → get_or state k 0 ≡ get_or state (5 * (k / 5) + k % 5) 0
+    place k =
+        let e : k ≡ 5 * (k / 5) + k % 5 = omega arith in
+        ap (λ (i : ℕ). get_or state i 0) e
 
--- ps holds the parities of all columns
-abbrev Parities : List ℕ → List ℕ → Type 0
-Parities a ps = ps ≡ listed (λ x. lane_of (column_parity a x)) 0 5
+module _ {a : List ℕ} (l : Lanes a) where
+  -- ---- theta
 
-parity-at : (a ps : List ℕ) → Parities a ps → (x : ℕ) → x < 5 → HasBits (get_or ps x 0) (column_parity a x)
-parity-at a ps e x h = rw (e, listed_at (λ x. lane_of (column_parity a x)) 0 5 x h) (lane-bits (column_parity a x) (parity-lt a x))
-
-module _ {a : List ℕ} (l : Lanes a) (x : ℕ) where
-  pub column-lane : bit_xor (bit_xor (bit_xor (bit_xor (get_or a x 0) (get_or a (x + 5) 0)) (get_or a (x + 10) 0)) (get_or a (x + 15) 0)) (get_or a (x + 20) 0)
-      ≡ lane_of (column_parity a x)
-  column-lane =
+  pub column-bits : (x : ℕ) {parity : ℕ}
+      → parity ≡ bit_xor (bit_xor (bit_xor (bit_xor (get_or a x 0) (get_or a (x + 5) 0)) (get_or a (x + 10) 0)) (get_or a (x + 15) 0)) (get_or a (x + 20) 0)
+      → HasBits parity (column_parity a x)
+  column-bits x e =
       let first = xor-bits (at 0 x (omega arith)) (at 1 (x + 5) (omega arith)) in
       let third = xor-bits first (at 2 (x + 10) (omega arith)) in
-      is-lane (xor-bits (xor-bits third (at 3 (x + 15) (omega arith))) (at 4 (x + 20) (omega arith)))
+      rw e (xor-bits (xor-bits third (at 3 (x + 15) (omega arith))) (at 4 (x + 20) (omega arith)))
     where
       at : (y k : ℕ) → k ≡ 5 * y + x → HasBits (get_or a k 0) (bit_at a x y)
       at = lane-at l x
 
-  -- `rotated` is the parities of the column after, rotated by one
-  pub theta-lane : (y : ℕ) (ps : List ℕ) → Parities a ps → (rotated : ℕ) → rotated ≡ lane_of (λ z. bit (get_or ps ((x + 1) % 5) 0) ((z + 63) % 64))
-      → bit_xor (get_or a (5 * y + x) 0) (bit_xor (get_or ps ((x + 4) % 5) 0) rotated) ≡ lane_of (theta_bit a x y)
-  theta-lane y ps e rotated t =
-      let before = parity-at a ps e ((x + 4) % 5) (mod-lt (x + 4) (lit< tt)) in
-      let after = parity-at a ps e ((x + 1) % 5) (mod-lt (x + 1) (lit< tt)) in
-      is-lane (xor-bits (lane-at l x y _ refl) (xor-bits before (rotated-has after 63 t)))
+  pub theta-lane : (parities : List ℕ) → ((x : ℕ) → x < 5 → HasBits (get_or parities x 0) (column_parity a x)) → (x y : ℕ) {lane : ℕ}
+      → lane ≡ bit_xor (get_or a (5 * y + x) 0) (bit_xor (get_or parities ((x + 4) % 5) 0) (rotate_left w64 (get_or parities ((x + 1) % 5) 0) 1))
+      → lane ≡ lane_of (theta_bit a x y)
+  theta-lane parities column x y e =
+      let before = column ((x + 4) % 5) (mod-lt (x + 4) (lit< tt)) in
+      let after = column ((x + 1) % 5) (mod-lt (x + 1) (lit< tt)) in
+      e ∙ is-lane (xor-bits (lane-at l x y _ refl) (xor-bits before (rotated-bits after 1 (lit< tt))))
 
--- ---- rho
+  -- ---- rho
 
-pub rho-lane : (a : List ℕ) (x y n : ℕ) → n ≡ offset x y % 64
-    → lane_of (λ z. bit (get_or a (5 * y + x) 0) ((z + (64 - n)) % 64)) ≡ lane_of (rho_bit a x y)
-rho-lane a x y n e = ap (λ (m : ℕ). lane_of (λ z. bit (get_or a (5 * y + x) 0) ((z + (64 - m)) % 64))) e
-
-module _ (table : List ℕ) (held : table ≡ offsets) (x y : ℕ) (h : x < 5) (k : y < 5) where
-  pub offset_at : get_or table (5 * y + x) 0 ≡ offset x y % 64
+  pub rho-lane : (table : List ℕ) → table ≡ offsets → (x y : ℕ) → x < 5 → y < 5 → {lane : ℕ}
+      → lane ≡ rotate_left w64 (get_or a (5 * y + x) 0) (get_or table (5 * y + x) 0) → lane ≡ lane_of (rho_bit a x y)
   unfolding offsets
-  offset_at =
-      let m : (5 * y + x) % 5 ≡ x = omega arith in
-      let d : (5 * y + x) / 5 ≡ y = omega arith in
-      ap (λ (t : List ℕ). get_or t (5 * y + x) 0) held
-      ∙ listed_at (λ i. offset (i % 5) (i / 5) % 64) 0 25 (5 * y + x) (omega arith)
-      ∙ ap₂ (λ (i j : ℕ). offset i j % 64) m d
+  rho-lane table held x y h k e =
+      e ∙ is-lane (rotated-bits (lane-at l x y _ refl) (get_or table (5 * y + x) 0 % 64) (mod-lt (get_or table (5 * y + x) 0) (lit< tt))) ∙ by
+    where
+      offset_at : get_or table (5 * y + x) 0 % 64 ≡ offset x y % 64
+      offset_at =
+          let m : (5 * y + x) % 5 ≡ x = omega arith in
+          let d : (5 * y + x) / 5 ≡ y = omega arith in
+          ap (λ (t : List ℕ). get_or t (5 * y + x) 0 % 64) held
+          ∙ ap (λ (n : ℕ). n % 64) (listed_at (λ i. offset (i % 5) (i / 5) % 64) 0 25 (5 * y + x) (omega arith))
+          ∙ ap₂ (λ (i j : ℕ). offset i j % 64 % 64) m d
+          ∙ omega arith
 
-  pub offset-lt : get_or table (5 * y + x) 0 < 64
-  offset-lt = rw offset_at (mod-lt (offset x y) (lit< tt))
+      by : lane_of (λ z. bit_at a x y ((z + (64 - get_or table (5 * y + x) 0 % 64)) % 64)) ≡ lane_of (rho_bit a x y)
+      by = ap (λ (n : ℕ). lane_of (λ z. bit_at a x y ((z + (64 - n)) % 64))) offset_at
 
--- ---- pi and chi
+  -- ---- pi and chi
 
-module _ {a : List ℕ} (l : Lanes a) (x y : ℕ) where
-  pub pi-lane : get_or a (5 * x + (x + 3 * y) % 5) 0 ≡ lane_of (pi_bit a x y)
-  pi-lane = is-lane (lane-at l ((x + 3 * y) % 5) x _ refl)
+  pub pi-lane : (x y : ℕ) {lane : ℕ} → lane ≡ get_or a (5 * x + (x + 3 * y) % 5) 0 → lane ≡ lane_of (pi_bit a x y)
+  pi-lane x y e = e ∙ is-lane (lane-at l ((x + 3 * y) % 5) x _ refl)
 
-  pub chi-lane :
-      bit_xor (get_or a (5 * y + x) 0) (bit_and (bit_xor (get_or a (5 * y + (x + 1) % 5) 0) 0xffff_ffff_ffff_ffff) (get_or a (5 * y + (x + 2) % 5) 0))
-      ≡ lane_of (chi_bit a x y)
-  chi-lane =
-      let complement = xor-bits (lane-at l ((x + 1) % 5) y _ refl) ones-bits in
-      is-lane (xor-bits (lane-at l x y _ refl) (and-bits complement (lane-at l ((x + 2) % 5) y _ refl)))
+  pub chi-lane : (x y : ℕ) {lane : ℕ}
+      → lane ≡ bit_xor (get_or a (5 * y + x) 0) (bit_and (bit_not w64 (get_or a (5 * y + (x + 1) % 5) 0)) (get_or a (5 * y + (x + 2) % 5) 0))
+      → lane ≡ lane_of (chi_bit a x y)
+  chi-lane x y e =
+      let complement = not-bits (lane-at l ((x + 1) % 5) y _ refl) in
+      e ∙ is-lane (xor-bits (lane-at l x y _ refl) (and-bits complement (lane-at l ((x + 2) % 5) y _ refl)))
 
 -- ---- iota
 

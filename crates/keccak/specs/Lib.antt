@@ -2,4 +2,3 @@ pub mod State
 pub mod StepMappings
 pub mod Permutation
 pub mod Tables
-pub mod Rows

@@ -3,184 +3,96 @@
 
 mod tables;
 
-ghost use Rattle.std.specs.Prelude.{◌≡◌, ◌+◌, ◌*◌, ◌-◌, ◌%◌, ◌<◌};
-ghost use Rattle.std.proofs.lemmas.List.Edits.{sets};
-ghost use Rattle.basics.specs.Range.{listed};
-ghost use Rattle.basics.specs.Digits.{bit};
-ghost use Rattle.keccak.specs.State.{lane_of};
-ghost use Rattle.keccak.specs.StepMappings.{column_parity, theta, theta_bit, rho, rho_bit, pi, pi_bit, chi, chi_bit, iota};
+ghost use Rattle.std.specs.Prelude.{◌≡◌, ◌+◌, ◌*◌, ◌<◌, ◌≤◌, get_or};
+ghost use Rattle.keccak.specs.StepMappings.{theta, rho, pi, chi, iota};
 ghost use Rattle.keccak.specs.Permutation.{round, keccak_f};
-ghost use Rattle.keccak.specs.Tables.{offsets, round_constants};
-ghost use Rattle.keccak.specs.Rows.{Lanes, row_of};
 
 const ROUNDS: usize = 24;
 
-const ONES: u64 = 0xffff_ffff_ffff_ffff;
-
-// A lane rotated by n: bit z comes from bit z - n.
-fn rotated(lane: u64, n: u64) -> u64
-    requires { n < 64 }
-    ensures { result ≡ lane_of (λ z. bit lane ((z + (64 - n)) % 64)) }
+// Stores a row: its lane at x is lane(x).
+fn store_row<F: Fn(usize) -> u64>(a: &mut [u64; 25], y: usize, lane: F)
+    requires row { y < 5 }
+    requires callable { (x : _) → x < 5 → F.pre lane x }
+    ensures stored { (x : _) → x < 5 → F.post lane x (get_or a.new (5 * y + x) 0) }
+    ensures kept { (k : _) → k < 5 * y → get_or a.new k 0 ≡ get_or a.old k 0 }
 {
-    (lane << n) | (lane >> ((64 - n) % 64))
-}
-
-// The state with another row at y.
-fn with_row(a: [u64; 25], y: usize, row: [u64; 5]) -> [u64; 25]
-    requires { y < 5 }
-    ensures { result ≡ sets «a» (5 * y) row }
-{
-    let mut out = a;
     for x in 0..5 {
-        out[5 * y + x] = row[x];
+        a[5 * y + x] = lane(x);
     }
-    out
 }
 
-// The parities of the five lanes at an x.
-fn column(a: &[u64; 25], x: usize) -> u64
-    requires { (x < 5) × Lanes a.now }
-    ensures { result ≡ lane_of (column_parity a.now x) }
+// The state whose lane at x and y is lane(x, y).
+fn state_of<F: Fn(usize, usize) -> u64>(lane: F) -> [u64; 25]
+    requires { (x y : _) → x < 5 → y < 5 → F.pre lane x y }
+    ensures { (x y : _) → x < 5 → y < 5 → F.post lane x y (get_or result (5 * y + x) 0) }
 {
-    a[x] ^ a[x + 5] ^ a[x + 10] ^ a[x + 15] ^ a[x + 20]
-}
-
-// The parities of all columns.
-fn columns(a: &[u64; 25]) -> [u64; 5]
-    requires { Lanes a.now }
-    ensures { result ≡ listed (λ x. lane_of (column_parity a.now x)) 0 5 }
-{
-    let mut out = [0u64; 5];
-    for x in 0..5 {
-        out[x] = column(a, x);
+    let mut a = [0; 25];
+    for y in 0..5 {
+        store_row(
+            &mut a,
+            y,
+            |x|
+                requires { F.pre lane x y }
+                ensures { F.post lane x y result }
+            { lane(x, y) },
+        );
     }
-    out
-}
-
-// A row after theta, from the parities of all columns.
-fn theta_row(a: &[u64; 25], parities: &[u64; 5], y: usize) -> [u64; 5]
-    requires { (y < 5) × Lanes a.now × (parities.now ≡ listed (λ x. lane_of (column_parity a.now x)) 0 5) }
-    ensures { result ≡ row_of (theta_bit a.now) y }
-{
-    let mut out = [0u64; 5];
-    for x in 0..5 {
-        out[x] = a[5 * y + x] ^ (parities[(x + 4) % 5] ^ rotated(parities[(x + 1) % 5], 1));
-    }
-    out
+    a
 }
 
 fn theta(a: [u64; 25]) -> [u64; 25]
     ensures { result ≡ theta a }
 {
-    let parities = columns(&a);
-    let mut out = [0u64; 25];
-    for y in 0..5 {
-        let row = theta_row(&a, &parities, y);
-        let next = with_row(out, y, row);
-        out = next;
-    }
-    out
+    let parities: [u64; 5] = std::array::from_fn(|x| a[x]
+        ^ a[x + 5]
+        ^ a[x + 10]
+        ^ a[x + 15]
+        ^ a[x + 20]);
+    state_of(|x, y| a[5 * y + x] ^ (parities[(x + 4) % 5] ^ parities[(x + 1) % 5].rotate_left(1)))
 }
 
-// A row after rho.
-fn rho_row(a: &[u64; 25], table: &[u64; 25], y: usize) -> [u64; 5]
-    requires { (y < 5) × (table.now ≡ offsets) }
-    ensures { result ≡ row_of (rho_bit a.now) y }
-{
-    let mut out = [0u64; 5];
-    for x in 0..5 {
-        out[x] = rotated(a[5 * y + x], table[5 * y + x]);
-    }
-    out
-}
-
-fn rho(a: [u64; 25], table: &[u64; 25]) -> [u64; 25]
-    requires { table.now ≡ offsets }
+fn rho(a: [u64; 25]) -> [u64; 25]
     ensures { result ≡ rho a }
 {
-    let mut out = [0u64; 25];
-    for y in 0..5 {
-        let row = rho_row(&a, table, y);
-        let next = with_row(out, y, row);
-        out = next;
-    }
-    out
-}
-
-// A row after pi.
-fn pi_row(a: &[u64; 25], y: usize) -> [u64; 5]
-    requires { (y < 5) × Lanes a.now }
-    ensures { result ≡ row_of (pi_bit a.now) y }
-{
-    let mut out = [0u64; 5];
-    for x in 0..5 {
-        out[x] = a[5 * x + (x + 3 * y) % 5];
-    }
-    out
+    let offsets = tables::offsets();
+    state_of(|x, y| a[5 * y + x].rotate_left(offsets[5 * y + x]))
 }
 
 fn pi(a: [u64; 25]) -> [u64; 25]
     ensures { result ≡ pi a }
 {
-    let mut out = [0u64; 25];
-    for y in 0..5 {
-        let row = pi_row(&a, y);
-        let next = with_row(out, y, row);
-        out = next;
-    }
-    out
-}
-
-// A row after chi.
-fn chi_row(a: &[u64; 25], y: usize) -> [u64; 5]
-    requires { (y < 5) × Lanes a.now }
-    ensures { result ≡ row_of (chi_bit a.now) y }
-{
-    let mut out = [0u64; 5];
-    for x in 0..5 {
-        out[x] = a[5 * y + x] ^ ((a[5 * y + (x + 1) % 5] ^ ONES) & a[5 * y + (x + 2) % 5]);
-    }
-    out
+    state_of(|x, y| a[5 * x + (x + 3 * y) % 5])
 }
 
 fn chi(a: [u64; 25]) -> [u64; 25]
     ensures { result ≡ chi a }
 {
-    let mut out = [0u64; 25];
-    for y in 0..5 {
-        let row = chi_row(&a, y);
-        let next = with_row(out, y, row);
-        out = next;
-    }
-    out
+    state_of(|x, y| a[5 * y + x] ^ (!a[5 * y + (x + 1) % 5] & a[5 * y + (x + 2) % 5]))
 }
 
 // The round constant is added to lane 0.
-fn iota(a: [u64; 25], i: usize, constants: &[u64; 24]) -> [u64; 25]
-    requires { (i < 24) × (constants.now ≡ round_constants) }
+fn iota(mut a: [u64; 25], i: usize) -> [u64; 25]
+    requires { i < 24 }
     ensures { result ≡ iota i «a» }
 {
-    let mut out = a;
-    out[0] ^= constants[i];
-    out
+    a[0] ^= tables::round_constants()[i];
+    a
 }
 
-fn round(a: [u64; 25], i: usize, table: &[u64; 25], constants: &[u64; 24]) -> [u64; 25]
-    requires { (i < 24) × (table.now ≡ offsets) × (constants.now ≡ round_constants) }
+fn round(a: [u64; 25], i: usize) -> [u64; 25]
+    requires { i < 24 }
     ensures { result ≡ round i «a» }
 {
-    iota(chi(pi(rho(theta(a), table))), i, constants)
+    iota(chi(pi(rho(theta(a)))), i)
 }
 
 // Keccak-f[1600]: 24 rounds.
 pub fn permuted(a: [u64; 25]) -> [u64; 25]
     ensures { result ≡ keccak_f a }
 {
-    let offsets = tables::offsets();
-    let constants = tables::round_constants();
     let mut out = a;
     for i in 0..ROUNDS {
-        let next = round(out, i, &offsets, &constants);
+        let next = round(out, i);
         out = next;
     }
     out

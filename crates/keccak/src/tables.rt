@@ -1,9 +1,9 @@
-// The constant tables of a round. The permutation makes each once and lends it down, since a constant that is indexed is built anew at each use.
+// The constant tables of a round.
 ghost use Rattle.std.specs.Prelude.{◌≡◌};
 ghost use Rattle.keccak.specs.Tables.{offsets, round_constants};
 
 // How far rho rotates lane 5 * y + x; a line for each y.
-const OFFSETS: [u64; 25] = [
+static OFFSETS: [u32; 25] = [
     0, 1, 62, 28, 27, // y = 0
     36, 44, 6, 55, 20, // y = 1
     3, 10, 43, 25, 39, // y = 2
@@ -11,7 +11,7 @@ const OFFSETS: [u64; 25] = [
     18, 2, 61, 56, 14, // y = 4
 ];
 
-const ROUND_CONSTANTS: [u64; 24] = [
+static ROUND_CONSTANTS: [u64; 24] = [
     0x0000_0000_0000_0001,
     0x0000_0000_0000_8082,
     0x8000_0000_0000_808a,
@@ -39,15 +39,15 @@ const ROUND_CONSTANTS: [u64; 24] = [
 ];
 
 // The rotation offsets.
-pub(crate) fn offsets() -> [u64; 25]
-    ensures { result ≡ offsets }
+pub(crate) fn offsets() -> &'static [u32; 25]
+    ensures { result.now ≡ offsets }
 {
-    OFFSETS
+    &OFFSETS
 }
 
 // The round constants.
-pub(crate) fn round_constants() -> [u64; 24]
-    ensures { result ≡ round_constants }
+pub(crate) fn round_constants() -> &'static [u64; 24]
+    ensures { result.now ≡ round_constants }
 {
-    ROUND_CONSTANTS
+    &ROUND_CONSTANTS
 }

@@ -12,10 +12,6 @@ pub loop-i-init : goal.loop-i-init
 unfolding rounds
 loop-i-init c = (lit≤ tt, refl)
 
-pub round-next-requires : goal.round-next-requires
-round-next-requires c =
-    (omega arith, c.offsets-offsets.ensures, c.round_constants-constants.ensures)
-
 pub loop-i-preserved : goal.loop-i-preserved
 unfolding rounds
 loop-i-preserved c =

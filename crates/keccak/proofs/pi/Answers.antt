@@ -1,21 +1,12 @@
--- The loop's invariant: the first y rows are made.
-use mathlib.Core.Path.{refl}
-use borrow.Author.Rules.{rules}
-use Rattle.keccak.specs.StepMappings.{pi}
-use Rattle.keccak.proofs.Lanes.{lanes_fit}
-use Rattle.keccak.proofs.Rows.{rows_none, rows_more, rows_all}
+-- Lane by lane, what the closure computes has the bits of the definition.
+use Rattle.std.proofs.Common.{rules}
+use Rattle.keccak.specs.StepMappings.{pi, pi_bit}
+use Rattle.keccak.proofs.Lanes.{Lanes, lanes_fit}
+use Rattle.keccak.proofs.Steps.{is-state, pi-lane}
 use Rattle.keccak.proofs.pi.Goals as goal
-
-pub loop-y-init : goal.loop-y-init
-loop-y-init c = rows_none refl
-
-pub pi_row-row-requires : goal.pi_row-row-requires
-pi_row-row-requires c = (c.loop-y-test.true, lanes_fit (λ k. search rules))
-
-pub loop-y-preserved : goal.loop-y-preserved
-loop-y-preserved c =
-    rows_more c.loop-y.invariant c.loop-y-test.true c.pi_row-row.ensures c.with_row-next.ensures
 
 pub returns : goal.returns
 unfolding pi
-returns c = rows_all c.loop-y.invariant c.loop-y-test.false
+returns c =
+    let l : Lanes c.args.a = lanes_fit (λ k. search rules) in
+    is-state (pi_bit c.args.a) (search rules) (λ x y h k. pi-lane l x y (let e = c.state_of.ensures x y h k in search rules))

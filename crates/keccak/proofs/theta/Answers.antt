@@ -1,22 +1,15 @@
--- The loop's invariant: the first y rows are made.
-use mathlib.Core.Path.{refl}
-use borrow.Author.Rules.{rules}
-use Rattle.keccak.specs.StepMappings.{theta}
-use Rattle.keccak.proofs.Lanes.{lanes_fit}
-use Rattle.keccak.proofs.Rows.{rows_none, rows_more, rows_all}
+-- Lane by lane, what the closures compute has the bits of the definition.
+use Rattle.std.proofs.Common.{rules}
+use Rattle.keccak.specs.StepMappings.{theta, theta_bit}
+use Rattle.keccak.proofs.Lanes.{Lanes, lanes_fit}
+use Rattle.keccak.proofs.Steps.{is-state, column-bits, theta-lane}
 use Rattle.keccak.proofs.theta.Goals as goal
-
-pub loop-y-init : goal.loop-y-init
-loop-y-init c = rows_none refl
-
-pub theta_row-row-requires : goal.theta_row-row-requires
-theta_row-row-requires c =
-    (c.loop-y-test.true, lanes_fit (λ k. search rules), c.columns-parities.ensures)
-
-pub loop-y-preserved : goal.loop-y-preserved
-loop-y-preserved c =
-    rows_more c.loop-y.invariant c.loop-y-test.true c.theta_row-row.ensures c.with_row-next.ensures
 
 pub returns : goal.returns
 unfolding theta
-returns c = rows_all c.loop-y.invariant c.loop-y-test.false
+returns c =
+    let l : Lanes c.args.a = lanes_fit (λ k. search rules) in
+    is-state (theta_bit c.args.a) (search rules)
+    (λ x y h k. theta-lane l c.from_fn-parities.result
+    (λ i m. column-bits l i (let e = c.from_fn-parities.ensures.items.at i 0 m in search rules)) x y
+    (let e = c.state_of.ensures x y h k in search rules))

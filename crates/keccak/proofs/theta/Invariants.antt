@@ -1,7 +1,0 @@
--- The loop's invariant: the first y rows are made.
-use Rattle.keccak.specs.StepMappings.{theta_bit}
-use Rattle.keccak.proofs.Rows.{Rows}
-use Rattle.keccak.proofs.theta.Given as goal
-
-abbrev pub invariant-loop-y : goal.invariant-loop-y
-invariant-loop-y l = Rows (theta_bit l.a) l.out l.y
