@@ -2,22 +2,22 @@
 use mathlib.Core.Path.{◌≡◌, sym, ap, ap₂, ◌∙◌}
 use mathlib.Core.Bool.{true, false, not, ◌&&◌}
 use mathlib.Core.List.{List}
-use mathlib.Core.Option.{none}
-use Prim.Native.Nat.{ℕ, suc, ◌+◌, ◌*◌, ◌^◌, ◌≤◌, ◌<◌}
+use Rattle.std.specs.Prelude.{None, Result, Ok, Err, ⊤}
+use Prim.Native.Nat.{ℕ, suc, ◌≤◌, ◌<◌}
 use lib.Dec.{leb, ltb}
 use borrow.Author.Tests.{le-leb, lt-leb, lt-ltb, le-ltb}
 use Rattle.basics.specs.Choice.{when◌then◌else◌}
 use Rattle.basics.proofs.Choice.{if-true, if-false}
 use Rattle.words.specs.declared.Rule.{Rule}
-use Rattle.words.specs.declared.Programmed.TheVariants as programmed
 use Rattle.words.specs.Programming.{program_answer, program_cells}
 use Rattle.words.proofs.Programming.{by_answer, stored_refused}
 use Rattle.partitions.specs.Map.{Map}
 use Rattle.life_cycle.specs.Words.{counter_words, state_words}
 use Rattle.life_cycle.specs.Transitions.{table_entry}
 use Rattle.model.specs.declared.Session.{Session}
-use Rattle.model.specs.declared.Answer.{Answer}
-use Rattle.model.specs.declared.Answer.TheVariants.{Done, NotBlank, NotReady, UnknownTarget, StrokesUsed}
+use Rattle.model.specs.declared.Failure.{Failure}
+use Rattle.model.specs.declared.Failure.TheVariants.{NotBlank, NotReady, UnknownTarget, StrokesUsed}
+use Rattle.model.specs.Answers.{Answer}
 use Rattle.model.specs.declared.Command.{Command}
 use Rattle.model.specs.declared.Command.TheVariants.{Transition}
 use Rattle.model.specs.declared.Outcome.{Outcome}
@@ -26,8 +26,6 @@ use Rattle.model.specs.Acts.{no_effect, to_inert, to_dead, effect_on, Act, say, 
 use Rattle.model.specs.Commands.{life_cycle_rule, counter_at, state_at, move_act, authorization, authorized_act, transition_act, command_act, Authorization}
 use Rattle.chip.specs.Chip.{primitives, machine_of, result_of, result_for}
 use Rattle.chip.proofs.Acting.{admitting, comes_to, said, program-done, program-refused, admitted-result}
-use Rattle.transition.specs.declared.Permit.{Permit}
-use Rattle.transition.specs.declared.Permit.TheVariants.{Granted, Refused}
 use Rattle.transition.specs.Permit.{permit_of, as_before, inert, dead, moved_as}
 use Rattle.transition.proofs.Tokens.{permitted_act, authorizing}
 
@@ -38,7 +36,7 @@ same-program rule cells e f = (ap₂ (program_answer rule cells) e f, ap₂ (pro
 
 -- admitted, with a record whose state and count are in range
 pub record Known (map : Map) (m : Machine) : Type 0 where
-  pub admitted-there : admitting map m ≡ none
+  pub admitted-there : admitting map m ≡ None
   pub good-record : (leb m.session.state 20 && leb m.session.count 24) ≡ true
 
 -- and the target is known and a stroke is left
@@ -52,9 +50,9 @@ module _ (s : Session) where
   unfolding effect_on
   now-inert l b = said (machine_of l s) b to_inert
 
-  now-dead : (l : Lent) (cell : ℕ) → comes_to (say (NotBlank cell) to_dead) (machine_of l s) ≡ result_of l (dead s cell)
+  now-dead : (l : Lent) (cell : ℕ) → comes_to (say (Err (NotBlank cell)) to_dead) (machine_of l s) ≡ result_of l (dead s cell)
   unfolding effect_on
-  now-dead l cell = said (machine_of l s) (NotBlank cell) to_dead
+  now-dead l cell = said (machine_of l s) (Err (NotBlank cell)) to_dead
 
   -- the state words are programmed; the machine m decided
   moving : (map : Map) (m : Machine) (l : Lent) (target : ℕ) → let at = state_at map in let ws = state_words m.lent.constants target in
@@ -66,21 +64,18 @@ module _ (s : Session) where
       let ws = state_words m.lent.constants target in
       let n = machine_of l s in
       by_answer (program_answer life_cycle_rule l.cells at ws)
-      (λ e. program-done n life_cycle_rule at ws to_dead (say (Done 0) to_inert) e ∙ now-inert (with_cells (program_cells life_cycle_rule l.cells at ws) l)
-      (Done 0)
+      (λ e. program-done n life_cycle_rule at ws to_dead (say (Ok 0) to_inert) e ∙ now-inert (with_cells (program_cells life_cycle_rule l.cells at ws) l)
+      (Ok 0)
       ∙ rw e)
-      (λ i e. program-refused n life_cycle_rule at ws to_dead (say (Done 0) to_inert) i e ∙ now-dead l i
+      (λ i e. program-refused n life_cycle_rule at ws to_dead (say (Ok 0) to_inert) i e ∙ now-dead l i
       ∙ rw (e, stored_refused life_cycle_rule l.cells ws at i e))
 
-module _ (map : Map) (l : Lent) (s : Session) (target high low : ℕ) where
+module _ (map : Map) (l : Lent) (s : Session) (target given : ℕ) where
   abbrev x : Command
-  x = Transition target high low
+  x = Transition target given
 
   abbrev m : Machine
   m = machine_of l s
-
-  abbrev given : ℕ
-  given = high * 2 ^ 64 + low
 
   -- the counter words of one stroke more, and their place
   abbrev stroke : List ℕ
@@ -98,19 +93,19 @@ module _ (map : Map) (l : Lent) (s : Session) (target high low : ℕ) where
   spend_act = program life_cycle_rule at stroke to_dead (authorized_act primitives map m authorized target)
 
   abbrev stroke_act : Act
-  stroke_act = when not (ltb s.count 24) then say StrokesUsed to_inert else spend_act
+  stroke_act = when not (ltb s.count 24) then say (Err StrokesUsed) to_inert else spend_act
 
   abbrev target_act : Act
   target_act = when not (leb target 20) then refuse UnknownTarget else stroke_act
 
-  decided : admitting map m ≡ none → (a : Act) → transition_act primitives map m target given ≡ a → result_for map x m ≡ comes_to a m
+  decided : admitting map m ≡ None → (a : Act) → transition_act primitives map m target given ≡ a → result_for map x m ≡ comes_to a m
   unfolding command_act
   decided e a f = admitted-result map x m tt e ∙ ap (λ (a : Act). comes_to a m) f
 
-  pub bad-record : admitting map m ≡ none → (leb s.state 20 && leb s.count 24) ≡ false
+  pub bad-record : admitting map m ≡ None → (leb s.state 20 && leb s.count 24) ≡ false
       → (o : Outcome) → o ≡ as_before s NotReady → result_of l o ≡ result_for map x m
   unfolding transition_act effect_on
-  bad-record e r o f = rw f (sym (decided e (refuse NotReady) (if-true _ _ (ap not r)) ∙ said m NotReady no_effect))
+  bad-record e r o f = rw f (sym (decided e (refuse NotReady) (if-true _ _ (ap not r)) ∙ said m (Err NotReady) no_effect))
 
   module _ (q : Known map m) where
     good : transition_act primitives map m target given ≡ target_act
@@ -123,10 +118,10 @@ module _ (map : Map) (l : Lent) (s : Session) (target high low : ℕ) where
     pub unknown-target : 20 < target → (o : Outcome) → o ≡ as_before s UnknownTarget → result_of l o ≡ result_for map x m
     unfolding effect_on
     unknown-target h o f =
-        rw f (sym (decided q.admitted-there (refuse UnknownTarget) (good ∙ if-true _ _ (ap not (lt-leb _ _ h))) ∙ said m UnknownTarget no_effect))
+        rw f (sym (decided q.admitted-there (refuse UnknownTarget) (good ∙ if-true _ _ (ap not (lt-leb _ _ h))) ∙ said m (Err UnknownTarget) no_effect))
 
-    pub strokes-used : target ≤ 20 → 24 ≤ s.count → (o : Outcome) → o ≡ inert s StrokesUsed → result_of l o ≡ result_for map x m
-    strokes-used h c o f = rw f (sym (aimed h (say StrokesUsed to_inert) (if-true _ _ (ap not (le-ltb _ _ c))) ∙ now-inert s l StrokesUsed))
+    pub strokes-used : target ≤ 20 → 24 ≤ s.count → (o : Outcome) → o ≡ inert s (Err StrokesUsed) → result_of l o ≡ result_for map x m
+    strokes-used h c o f = rw f (sym (aimed h (say (Err StrokesUsed) to_inert) (if-true _ _ (ap not (le-ltb _ _ c))) ∙ now-inert s l (Err StrokesUsed)))
 
   module _ (q : Spendable map m target) where
     spending : result_for map x m ≡ comes_to spend_act m
@@ -137,14 +132,14 @@ module _ (map : Map) (l : Lent) (s : Session) (target high low : ℕ) where
       abbrev after : Lent
       after = with_cells cells l
 
-      pub stroke-refused : (cell : ℕ) → program_answer life_cycle_rule l.cells at stroke ≡ programmed.Refused cell → (o : Outcome) → o ≡ dead s cell
+      pub stroke-refused : (cell : ℕ) → program_answer life_cycle_rule l.cells at stroke ≡ Err cell → (o : Outcome) → o ≡ dead s cell
           → result_of after o ≡ result_for map x m
       stroke-refused cell e o f =
           rw (f, c, stored_refused life_cycle_rule l.cells stroke at cell e)
           (sym (spending ∙ program-refused m life_cycle_rule at stroke to_dead _ cell e ∙ now-dead s l cell))
 
-      module _ (e : program_answer life_cycle_rule l.cells at stroke ≡ programmed.Done) where
-        asked : (p : Permit) → permit_of after authorized ≡ p
+      module _ (e : program_answer life_cycle_rule l.cells at stroke ≡ Ok tt) where
+        asked : (p : Result ⊤ Failure) → permit_of after authorized ≡ p
             → result_for map x m ≡ comes_to (permitted_act p (move_act primitives map m target)) (machine_of after s)
         asked p f =
             rw (← f, c)
@@ -152,10 +147,10 @@ module _ (map : Map) (l : Lent) (s : Session) (target high low : ℕ) where
             ∙ program-done m life_cycle_rule at stroke to_dead _ e
             ∙ authorizing map m (machine_of (with_cells (program_cells life_cycle_rule l.cells at stroke) l) s) target authorized)
 
-        pub not-permitted : (b : Answer) → permit_of after authorized ≡ Refused b → (o : Outcome) → o ≡ inert s b → result_of after o ≡ result_for map x m
-        not-permitted b f o g = rw g (sym (asked (Refused b) f ∙ now-inert s after b))
+        pub not-permitted : (b : Failure) → permit_of after authorized ≡ Err b → (o : Outcome) → o ≡ inert s (Err b) → result_of after o ≡ result_for map x m
+        not-permitted b f o g = rw g (sym (asked (Err b) f ∙ now-inert s after (Err b)))
 
-        pub moved : permit_of after authorized ≡ Granted → (end : List ℕ) (o : Outcome)
+        pub moved : permit_of after authorized ≡ Ok tt → (end : List ℕ) (o : Outcome)
             → o ≡ moved_as s (program_answer life_cycle_rule cells (state_at map) (state_words l.constants target))
             → end ≡ program_cells life_cycle_rule cells (state_at map) (state_words l.constants target) → result_of (with_cells end l) o ≡ result_for map x m
-        moved f end o g h = rw (g, h) (sym (asked Granted f ∙ moving s map m after target))
+        moved f end o g h = rw (g, h) (sym (asked (Ok tt) f ∙ moving s map m after target))

@@ -1,7 +1,7 @@
 // The life cycle transition: a stroke is spent first, then the table is asked and the token hashed and compared, then the state words are programmed.
 #![tactic(auto)]
 
-ghost use Rattle.std.specs.Prelude.{◌≡◌, List, ℕ, suc, ◌+◌, ◌*◌, ◌/◌, ◌^◌, ◌≤◌, ◌<◌};
+ghost use Rattle.std.specs.Prelude.{◌≡◌, List, ℕ, suc, ◌+◌, ◌/◌, ◌≤◌, ◌<◌};
 ghost use Rattle.words.specs.Programming.{program_answer, program_cells};
 ghost use Rattle.partitions.specs.Map.{partition, number_of_kind};
 ghost use Rattle.partitions.specs.Maps.{map_of};
@@ -12,24 +12,20 @@ ghost use Rattle.model.specs.Commands.{life_cycle_rule, token_kind, token_offset
 ghost use Rattle.chip.specs.Chip.{primitives, lent_of, Executes};
 ghost use Rattle.transition.specs.Permit.{compared_as, permit_of, as_before, inert, dead, moved_as};
 
-use chip::Judged;
-use life_cycle::{Entry, SCRAP, STROKES, Token};
-use model::{Answer, Outcome, Phase, Reason, Session, Sizes};
+use chip::{Chip, sizes_of};
+use life_cycle::{SCRAP, STROKES, Token};
+use model::{Answer, Failure, Outcome, Phase, Reason, Session};
 use partitions::{Kind, MapName};
-use words::{Halves, Programmed, Rule, eight_words};
+use words::{Rule, eight_words};
 
-// Table and token permit the move, or refuse it with an answer.
-#[derive(Clone, Copy)]
-enum Permit {
-    Granted,
-    Refused(Answer),
-}
-
-// An answer that changes nothing.
-fn as_before(session: Session, answer: Answer) -> Outcome
-    ensures { result ≡ as_before session answer }
+// A refusal that changes nothing.
+fn as_before(session: Session, failure: Failure) -> Outcome
+    ensures { result ≡ as_before session failure }
 {
-    Outcome { session, answer }
+    Outcome {
+        session,
+        answer: Err(failure),
+    }
 }
 
 // An answer that ends the session.
@@ -48,64 +44,52 @@ fn dead(session: Session, cell: usize) -> Outcome
 {
     Outcome {
         session: session.in_phase(Phase::Dead(Reason::BitCleared)),
-        answer: Answer::NotBlank(cell),
+        answer: Err(Failure::NotBlank(cell)),
     }
 }
 
 // Programs the counter words of one stroke more.
-fn spend(cells: &mut [u16], constants: &[u16], map: MapName, count: u8) -> Programmed
+fn spend(chip: Chip<'_>, cells: &mut [u16], count: u8) -> Result<(), usize>
     requires { count < 24 }
-    ensures answer { result ≡ program_answer life_cycle_rule cells.old (counter_at (map_of map)) (counter_words constants.now (suc count)) }
-    ensures words { cells.new ≡ program_cells life_cycle_rule cells.old (counter_at (map_of map)) (counter_words constants.now (suc count)) }
+    ensures answer { result ≡ program_answer life_cycle_rule cells.old (counter_at (map_of chip.entry.map)) (counter_words chip.entry.constants.now (suc count)) }
+    ensures words { cells.new ≡ program_cells life_cycle_rule cells.old (counter_at (map_of chip.entry.map)) (counter_words chip.entry.constants.now (suc count)) }
 {
-    let at = chip::counter_at(map);
-    let words = life_cycle::counter_words(constants, count + 1);
-    words::program(Rule::KeepBits, cells, at, &words[..])
+    let words = life_cycle::counter_words(chip.constants, count + 1);
+    words::program(Rule::KeepBits, cells, chip.counter_at(), &words)
 }
 
 // Programs the state words of the target.
-fn move_to(
-    cells: &mut [u16],
-    constants: &[u16],
-    map: MapName,
-    session: Session,
-    target: u8,
-) -> Outcome
-    ensures outcome { result ≡ moved_as session (program_answer life_cycle_rule cells.old (state_at (map_of map)) (state_words constants.now target)) }
-    ensures words { cells.new ≡ program_cells life_cycle_rule cells.old (state_at (map_of map)) (state_words constants.now target) }
+fn move_to(chip: Chip<'_>, cells: &mut [u16], session: Session, target: u8) -> Outcome
+    ensures outcome { result ≡ moved_as session (program_answer life_cycle_rule cells.old (state_at (map_of chip.entry.map)) (state_words chip.entry.constants.now target)) }
+    ensures words { cells.new ≡ program_cells life_cycle_rule cells.old (state_at (map_of chip.entry.map)) (state_words chip.entry.constants.now target) }
 {
-    let at = chip::state_at(map);
-    let words = life_cycle::state_words(constants, target);
-    match words::program(Rule::KeepBits, cells, at, &words[..]) {
-        Programmed::Done => inert(session, Answer::Done(0)),
-        Programmed::Refused(cell) => dead(session, cell),
+    let words = life_cycle::state_words(chip.constants, target);
+    match words::program(Rule::KeepBits, cells, chip.state_at(), &words) {
+        Ok(()) => inert(session, Ok(0)),
+        Err(cell) => dead(session, cell),
     }
 }
 
 // The kind of the partition that stores a token.
+#[tactic(auto, unfolding(model::specs::Commands::token_kind))]
 fn kind_of(token: Token) -> Kind
     ensures { result ≡ token_kind token }
 {
     match token {
-        Token::Nothing => Kind::Secret0,
-        Token::RawUnlock => Kind::Secret0,
-        Token::TestUnlock => Kind::Secret0,
-        Token::TestExit => Kind::Secret0,
+        Token::Nothing | Token::RawUnlock | Token::TestUnlock | Token::TestExit => Kind::Secret0,
         Token::Rma => Kind::Secret2,
     }
 }
 
 // Its first word, counted from the start of the partition.
+#[tactic(auto, unfolding(model::specs::Commands::token_offset))]
 fn offset_of(token: Token) -> usize
     ensures value { result ≡ token_offset token }
     ensures small { result ≤ 8 }
 {
     match token {
-        Token::Nothing => 0,
-        Token::RawUnlock => 0,
-        Token::TestUnlock => 0,
+        Token::Nothing | Token::RawUnlock | Token::TestUnlock | Token::Rma => 0,
         Token::TestExit => 8,
-        Token::Rma => 0,
     }
 }
 
@@ -125,99 +109,66 @@ fn place_of(map: MapName, token: Token) -> usize
 }
 
 // The test behind 0x23: the token given is hashed, and its hash compared with the stored one.
-fn compared(stored: Halves, high: u64, low: u64) -> Permit
-    ensures { result ≡ compared_as (hashes_to primitives (high * 2 ^ 64 + low) (stored.high * 2 ^ 64 + stored.low)) }
+#[tactic(auto, using(chip::proofs::Reading::choices), unfolding(crate::specs::Permit::compared_as, model::specs::Commands::hashes_to))]
+fn compared(stored: u128, given: u128) -> Result<(), Failure>
+    ensures { result ≡ compared_as (hashes_to primitives given stored) }
 {
-    let hash = token_hash::hash_of(high, low);
-    if (stored.high == hash.high) & (stored.low == hash.low) {
-        return Permit::Granted;
+    if stored == token_hash::hash_of(given) {
+        Ok(())
+    } else {
+        Err(Failure::TokenDiffers)
     }
-    Permit::Refused(Answer::TokenDiffers)
 }
 
 // The hash of a token that is stored is that of the sensed copy, and its partition has to be sensed locked.
-fn locked_permit(
-    copy: &[u16],
-    map: MapName,
-    session: Session,
-    token: Token,
-    high: u64,
-    low: u64,
-) -> Permit
+#[tactic(auto, using(crate::proofs::Tokens::locks), unfolding(model::specs::Commands::stored_token))]
+fn locked_permit(chip: Chip<'_>, copy: &[u16], session: Session, token: Token, given: u128) -> Result<(), Failure>
     ensures { (cells constants : List ℕ)
-        → result ≡ permit_of (lent_of cells copy.now constants) (locked_token primitives (map_of map) session token (high * 2 ^ 64 + low)) }
+        → result ≡ permit_of (lent_of cells copy.now constants) (locked_token primitives (map_of chip.entry.map) session token given) }
 {
-    if !session.sensed_locked(lock_of(map, token)) {
-        return Permit::Refused(Answer::TokenNotLocked);
+    if !session.sensed_locked(lock_of(chip.map, token)) {
+        return Err(Failure::TokenNotLocked);
     }
-    compared(eight_words(copy, place_of(map, token)), high, low)
+    compared(eight_words(copy, place_of(chip.map, token)), given)
 }
 
 // What the table's entry needs. The hash of the RAW_UNLOCK token is a constant and needs no lock.
-fn permitted(
-    copy: &[u16],
-    constants: &[u16],
-    map: MapName,
-    session: Session,
-    target: u8,
-    high: u64,
-    low: u64,
-) -> Permit
-    ensures { (cells : List ℕ) → result ≡ permit_of (lent_of cells copy.now constants.now)
-        (authorization primitives (map_of map) session (table_entry session.state target) (high * 2 ^ 64 + low)) }
+#[tactic(auto, using(crate::proofs::Tokens::entries), unfolding(constants::specs::Constants::raw_unlock_hash))]
+fn permitted(chip: Chip<'_>, copy: &[u16], session: Session, target: u8, given: u128) -> Result<(), Failure>
+    ensures { (cells : List ℕ) → result ≡ permit_of (lent_of cells copy.now chip.entry.constants.now)
+        (authorization primitives (map_of chip.entry.map) session (table_entry session.state target) given) }
 {
-    match life_cycle::table_entry(session.state, target) {
-        Entry::Forbidden => Permit::Refused(Answer::NotInTable),
-        Entry::Allowed(token) => match token {
-            Token::Nothing => Permit::Granted,
-            Token::RawUnlock => compared(
-                eight_words(constants, constants::RAW_UNLOCK_HASH),
-                high,
-                low,
-            ),
-            Token::TestUnlock => locked_permit(copy, map, session, token, high, low),
-            Token::TestExit => locked_permit(copy, map, session, token, high, low),
-            Token::Rma => locked_permit(copy, map, session, token, high, low),
-        },
+    let needed = life_cycle::table_entry(session.state, target).ok_or(Failure::NotInTable)?;
+    match needed {
+        Token::Nothing => Ok(()),
+        Token::RawUnlock => compared(eight_words(chip.constants, constants::RAW_UNLOCK_HASH), given),
+        Token::TestUnlock | Token::TestExit | Token::Rma => locked_permit(chip, copy, session, needed, given),
     }
 }
 
 // The transition command. The token comes raw.
-pub fn transition(
-    cells: &mut [u16],
-    copy: &[u16],
-    constants: &[u16],
-    map: MapName,
-    session: Session,
-    target: u8,
-    token: Halves,
-) -> Outcome
-    ensures { Executes (map_of map) (Command.Transition target token.high token.low) session
-        (lent_of cells.old copy.now constants.now)
-        (lent_of cells.new copy.now constants.now) result }
+pub fn transition(chip: Chip<'_>, cells: &mut [u16], copy: &[u16], session: Session, target: u8, token: u128) -> Outcome
+    ensures { Executes (map_of chip.entry.map) (Command.Transition target token) session
+        (lent_of cells.old copy.now chip.entry.constants.now)
+        (lent_of cells.new copy.now chip.entry.constants.now) result }
 {
-    let sizes = Sizes {
-        cells: cells.len(),
-        copy: copy.len(),
-    };
-    let phase = session.phase;
-    if let Judged::Refused(answer) = chip::admit(sizes, constants, map, phase) {
-        return Outcome { session, answer };
+    if let Err(failure) = chip.admit(sizes_of(&cells[..], copy), session.phase) {
+        return as_before(session, failure);
     }
     if !((session.state <= SCRAP) & (session.count <= STROKES)) {
-        return as_before(session, Answer::NotReady);
+        return as_before(session, Failure::NotReady);
     }
     if SCRAP < target {
-        return as_before(session, Answer::UnknownTarget);
+        return as_before(session, Failure::UnknownTarget);
     }
     if STROKES <= session.count {
-        return inert(session, Answer::StrokesUsed);
+        return inert(session, Err(Failure::StrokesUsed));
     }
-    if let Programmed::Refused(cell) = spend(cells, constants, map, session.count) {
+    if let Err(cell) = spend(chip, cells, session.count) {
         return dead(session, cell);
     }
-    match permitted(copy, constants, map, session, target, token.high, token.low) {
-        Permit::Refused(answer) => inert(session, answer),
-        Permit::Granted => move_to(cells, constants, map, session, target),
+    match permitted(chip, copy, session, target, token) {
+        Ok(()) => move_to(chip, cells, session, target),
+        Err(failure) => inert(session, Err(failure)),
     }
 }
