@@ -1,2 +1,3 @@
 pub mod Checking
 pub mod Sensing
+pub mod PowerUpEnd

@@ -1,19 +1,20 @@
 -- What the copy holds, in blocks of four words. The idea: starts, digests and ends of a fit map stand at multiples of eight bytes, so the words of
 -- a block are in one partition and on one side of its digest address, and a secret block is one granule.
-use mathlib.Core.Path.{◌≡◌, refl, sym, ap, ◌∙◌}
+use mathlib.Core.Path.{◌≡◌, refl, sym, ap, ap₂, ◌∙◌}
 use mathlib.Core.Bool.{true, false, not, ◌&&◌}
-use mathlib.Core.List.{List, [], ◌∷◌}
+use mathlib.Core.List.{List, [], ◌∷◌, ◌++◌}
 use Prim.Native.Nat.{ℕ, zero, suc, ◌+◌, ◌*◌, ◌-◌, ◌/◌, ◌%◌, ◌≤◌, ◌<◌}
+use native.Mathlib.Nat.{add-zero, zero-add, suc-add}
 use native.Mathlib.Omega.{arith}
+use lib.Seq.{take_all}
 use lib.Dec.{leb}
 use borrow.Rule.Slice.PartMut.{put_mid}
-use Rattle.std.proofs.lemmas.List.{places}
-use Rattle.std.proofs.Common.{rules}
-use lib.ListN.{length, get_or, set, replicate}
+use Rattle.std.proofs.lemmas.Slice.{take-put_mid}
+use lib.ListN.{length, get_or, take, replicate}
 use borrow.Author.Tests.{leb-true, leb-false, le-leb, lt-leb}
 use Rattle.basics.specs.Range.{listed}
 use Rattle.basics.proofs.Choice.{by_cases, and-false, if-true, if-false}
-use Rattle.basics.proofs.Range.{length-listed, listed_at, listed-from, is-listed-from, sets_more}
+use Rattle.basics.proofs.Range.{length-listed, listed_at, listed-from, is-listed-from}
 use Rattle.words.specs.Words.{number_of, words_of, part_at}
 use Rattle.words.proofs.Words.{Words, length-words, words-number}
 use Rattle.words.proofs.Parts.{length_part, part-words}
@@ -111,16 +112,36 @@ module _ (prims : Primitives) (map : Map) (fits : fit map ≡ true) (constants c
 
 -- ---- a block is stored
 
--- the blocks below a number are latched
-pub record Latched (f : ℕ → ℕ) (xs : List ℕ) (number : ℕ) : Type 0 where
-  pub entry : (j : ℕ) → j < 4 * number → get_or xs j 0 ≡ f j
+listed-append : (f : ℕ → ℕ) (i m n : ℕ) → listed f i m ++ listed f (i + m) n ≡ listed f i (m + n)
+unfolding listed
+listed-append f i zero n = ap₂ (listed f) (add-zero i) (sym (zero-add n))
+listed-append f i (suc m) n =
+    let e : i + suc m ≡ suc i + m = omega arith in
+    rw (e, suc-add m n) (ap (λ (xs : List ℕ). f i ∷ xs) (listed-append f (suc i) m n))
 
-pub stored-block : (f : ℕ → ℕ) (xs ws : List ℕ) (at : ℕ) → at + 4 ≤ length xs → ws ≡ listed f at 4 → ((j : ℕ) → j < at → get_or xs j 0 ≡ f j)
-    → (j : ℕ) → j < at + 4 → get_or (put_mid at 4 xs ws) j 0 ≡ f j
-stored-block f xs ws at h e known j l =
-    by_cases (leb at j)
-    (λ t. let q : at ≤ j = leb-true at j t in search (rules, places))
-    (λ t. let q : j < at = leb-false at j t in search (rules, places, known))
+-- the words below a number are latched
+pub record Latched (f : ℕ → ℕ) (xs : List ℕ) (n : ℕ) : Type 0 where
+  pub words : take n xs ≡ listed f 0 n
+
+pub latched-none : (f : ℕ → ℕ) (xs : List ℕ) → Latched f xs 0
+unfolding listed
+latched-none f xs = record { words = refl }
+
+pub latched-more : (f : ℕ → ℕ) (xs ws : List ℕ) (number k : ℕ) → Latched f xs (4 * number) → 4 * number ≤ length xs → ws ≡ listed f (4 * number) 4
+    → Latched f (put_mid (4 * number) k xs ws) (4 * (number + 1))
+latched-more f xs ws number k h l e =
+    let at = 4 * number in
+    let n : 4 * (number + 1) ≡ at + 4 = omega arith in
+    let m : at + 4 ≡ at + length ws = omega (arith, ap length e ∙ length-listed f at 4) in
+    let joined : listed f 0 at ++ listed f at 4 ≡ listed f 0 (at + 4) =
+    ap (λ (i : ℕ). listed f 0 at ++ listed f i 4) (sym (zero-add at)) ∙ listed-append f 0 at 4 in
+    record {
+      words = ap (λ (i : ℕ). take i (put_mid at k xs ws)) n ∙ take-put_mid at k xs ws (at + 4) m l ∙ ap₂ (λ (a b : List ℕ). a ++ b) h.words e ∙ joined
+          ∙ ap (listed f 0) (sym n);
+    }
+
+pub latched-all : (f : ℕ → ℕ) (xs : List ℕ) (n : ℕ) → Latched f xs n → length xs ≡ n → xs ≡ listed f 0 n
+latched-all f xs n h e = sym (take_all n xs (omega (arith, e))) ∙ h.words
 
 -- ---- nothing is sensed
 

@@ -1,17 +1,23 @@
 // Power-up: the stored digests are checked, the life cycle is decoded, and copy and session are sensed anew.
 #![tactic(auto)]
 
-ghost use Rattle.std.specs.Prelude.{◌≡◌, ◌+◌, ◌*◌, ◌/◌, ◌%◌, ◌≤◌, ◌<◌, length};
+ghost use Rattle.std.specs.Prelude.{◌≡◌, List, ℕ, ◌+◌, ◌*◌, ◌/◌, ◌%◌, ◌≤◌, ◌<◌, length};
 ghost use Rattle.basics.specs.Range.{listed};
 ghost use Rattle.partitions.specs.Map.{limit};
 ghost use Rattle.partitions.specs.Maps.{map_of};
-ghost use Rattle.model.specs.PowerUp.{sensed_digest, digests, digest_holds, first_failing, copy_word};
-ghost use Rattle.chip.specs.Chip.{primitives};
-ghost use Rattle.power_up.specs.PowerUpEnd.{verdict_in};
+ghost use Rattle.model.specs.declared.Command.TheVariants.{PowerUp};
+ghost use Rattle.model.specs.PowerUp.{sensed_digest, digests, digest_holds, first_failing, copy_word, life_cycle_in, power_up_end, succeeds};
+ghost use Rattle.chip.specs.Chip.{primitives, lent_of, result_of, Executes};
+ghost use Rattle.power_up.specs.PowerUpEnd.{ended_as, powered_result, dead_outcome};
 
-use chip::Chip;
+use chip::{Chip, sizes_of};
+use life_cycle::{LifeCycle, SCRAP};
+use model::{ENTRIES, Failure, Outcome, Phase, Reason, Session};
 use partitions::Partition;
 use std::array;
+
+// The value for a life cycle that is not valid.
+const INVALID: u64 = 0xFFFF;
 
 // Whether a partition has no hardware digest, stores none yet, or stores the one computed.
 #[tactic(auto, using(crate::proofs::Checking::checks))]
@@ -26,7 +32,7 @@ fn digest_holds(chip: Chip<'_>, cells: &[u16], partition: Partition) -> bool
 // The first partition whose digest check fails.
 fn first_failing(chip: Chip<'_>, cells: &[u16]) -> Option<usize>
     requires { length cells.now ≡ limit (map_of chip.map) / 2 }
-    ensures { result ≡ verdict_in (first_failing primitives (map_of chip.entry.map) chip.entry.constants.now cells.now) }
+    ensures { result ≡ first_failing primitives (map_of chip.entry.map) chip.entry.constants.now cells.now }
 {
     (0..chip.map.count()).find(|number| !digest_holds(chip, cells, chip.map.partition_of(*number)))
 }
@@ -45,7 +51,7 @@ fn sensed_digest(cells: &[u16], partition: Partition) -> u64
 
 // The stored digests by the partitions' numbers.
 #[tactic(auto, unfolding(model::specs::PowerUp::digests, basics::specs::Range::listed))]
-fn stored_digests(chip: Chip<'_>, cells: &[u16]) -> [u64; 10]
+fn stored_digests(chip: Chip<'_>, cells: &[u16]) -> [u64; ENTRIES]
     ensures { result ≡ digests cells.now (map_of chip.entry.map) }
 {
     array::from_fn(|number| sensed_digest(cells, chip.map.partition_of(number)))
@@ -85,4 +91,87 @@ fn clear(copy: &mut [u16])
     ensures { copy.new ≡ listed (λ j. 0) 0 (length copy.old) }
 {
     copy.fill(0);
+}
+
+// A power-up that fails: nothing is sensed.
+fn dead(copy: &mut [u16], reason: Reason, failure: Failure) -> Outcome
+    ensures copy { copy.new ≡ listed (λ j. 0) 0 (length copy.old) }
+    ensures outcome { result ≡ dead_outcome reason failure }
+{
+    clear(copy);
+    Outcome {
+        session: Session::unlocked(Phase::Dead(reason), [0; ENTRIES], 0, 0),
+        answer: Err(failure),
+    }
+}
+
+// 256 times the count plus the state.
+fn value_of(life_cycle: LifeCycle) -> u64
+    ensures { result ≡ 256 * life_cycle.count + life_cycle.state }
+{
+    256 * u64::from(life_cycle.count) + u64::from(life_cycle.state)
+}
+
+// A power-up that succeeds: copy and session are sensed from the cells.
+fn ready(chip: Chip<'_>, cells: &[u16], copy: &mut [u16], life_cycle: LifeCycle) -> Outcome
+    requires { (length cells.now ≡ limit (map_of chip.map) / 2) × (length copy.old ≡ limit (map_of chip.map) / 2) }
+    ensures { result_of (lent_of cells.now copy.new chip.entry.constants.now) result
+        ≡ powered_result (map_of chip.entry.map) (λ l. succeeds life_cycle.state life_cycle.count)
+        (lent_of cells.now copy.old chip.entry.constants.now) }
+{
+    latch(chip, cells, copy);
+    let sensed = stored_digests(chip, cells);
+    Outcome {
+        session: Session::unlocked(Phase::Ready, sensed, life_cycle.state, life_cycle.count),
+        answer: Ok(value_of(life_cycle)),
+    }
+}
+
+// The life cycle that the last words of the cells stand for.
+fn life_cycle_in(chip: Chip<'_>, cells: &[u16]) -> Option<LifeCycle>
+    requires { length cells.now ≡ limit (map_of chip.map) / 2 }
+    ensures { (copy : List ℕ) → result ≡ life_cycle_in (map_of chip.entry.map) (lent_of cells.now copy chip.entry.constants.now) }
+{
+    let counter = chip.counter_at();
+    let state = chip.state_at();
+    life_cycle::decode(chip.constants, &cells[counter..state], &cells[state..])
+}
+
+// How a power-up ends: with the life cycle of the cells, or dead for a reason, with what is answered. The digest checks come first, then the life cycle
+// decides.
+#[tactic(auto, using(crate::proofs::PowerUpEnd::ends))]
+fn checked(chip: Chip<'_>, cells: &[u16]) -> Result<LifeCycle, (Reason, Failure)>
+    requires { length cells.now ≡ limit (map_of chip.map) / 2 }
+    ensures { (copy : List ℕ) → result ≡ ended_as (power_up_end primitives (map_of chip.entry.map) (lent_of cells.now copy chip.entry.constants.now)) }
+{
+    if let Some(number) = first_failing(chip, cells) {
+        return Err((Reason::DigestFailed, Failure::DigestFailed(number)));
+    }
+    match life_cycle_in(chip, cells) {
+        None => Err((Reason::LifeCycleFailed, Failure::LifeCycleFailed(INVALID))),
+        Some(life_cycle) if life_cycle.state == SCRAP => {
+            Err((
+                Reason::LifeCycleFailed,
+                Failure::LifeCycleFailed(value_of(life_cycle)),
+            ))
+        }
+        Some(life_cycle) => Ok(life_cycle),
+    }
+}
+
+// The power-up command.
+pub fn power_up(chip: Chip<'_>, cells: &[u16], copy: &mut [u16], session: Session) -> Outcome
+    ensures { Executes (map_of chip.entry.map) PowerUp session (lent_of cells.now copy.old chip.entry.constants.now)
+        (lent_of cells.now copy.new chip.entry.constants.now) result }
+{
+    if let Err(failure) = chip.judge(sizes_of(cells, &copy[..])) {
+        return Outcome {
+            session,
+            answer: Err(failure),
+        };
+    }
+    match checked(chip, cells) {
+        Ok(life_cycle) => ready(chip, cells, copy, life_cycle),
+        Err((reason, failure)) => dead(copy, reason, failure),
+    }
 }

@@ -122,7 +122,13 @@ fn compared(stored: u128, given: u128) -> Result<(), Failure>
 
 // The hash of a token that is stored is that of the sensed copy, and its partition has to be sensed locked.
 #[tactic(auto, using(crate::proofs::Tokens::locks), unfolding(model::specs::Commands::stored_token))]
-fn locked_permit(chip: Chip<'_>, copy: &[u16], session: Session, token: Token, given: u128) -> Result<(), Failure>
+fn locked_permit(
+    chip: Chip<'_>,
+    copy: &[u16],
+    session: Session,
+    token: Token,
+    given: u128,
+) -> Result<(), Failure>
     ensures { (cells constants : List ℕ)
         → result ≡ permit_of (lent_of cells copy.now constants) (locked_token primitives (map_of chip.entry.map) session token given) }
 {
@@ -134,20 +140,38 @@ fn locked_permit(chip: Chip<'_>, copy: &[u16], session: Session, token: Token, g
 
 // What the table's entry needs. The hash of the RAW_UNLOCK token is a constant and needs no lock.
 #[tactic(auto, using(crate::proofs::Tokens::entries), unfolding(constants::specs::Constants::raw_unlock_hash))]
-fn permitted(chip: Chip<'_>, copy: &[u16], session: Session, target: u8, given: u128) -> Result<(), Failure>
+fn permitted(
+    chip: Chip<'_>,
+    copy: &[u16],
+    session: Session,
+    target: u8,
+    given: u128,
+) -> Result<(), Failure>
     ensures { (cells : List ℕ) → result ≡ permit_of (lent_of cells copy.now chip.entry.constants.now)
         (authorization primitives (map_of chip.entry.map) session (table_entry session.state target) given) }
 {
     let needed = life_cycle::table_entry(session.state, target).ok_or(Failure::NotInTable)?;
     match needed {
         Token::Nothing => Ok(()),
-        Token::RawUnlock => compared(eight_words(chip.constants, constants::RAW_UNLOCK_HASH), given),
-        Token::TestUnlock | Token::TestExit | Token::Rma => locked_permit(chip, copy, session, needed, given),
+        Token::RawUnlock => compared(
+            eight_words(chip.constants, constants::RAW_UNLOCK_HASH),
+            given,
+        ),
+        Token::TestUnlock | Token::TestExit | Token::Rma => locked_permit(
+            chip, copy, session, needed, given,
+        ),
     }
 }
 
 // The transition command. The token comes raw.
-pub fn transition(chip: Chip<'_>, cells: &mut [u16], copy: &[u16], session: Session, target: u8, token: u128) -> Outcome
+pub fn transition(
+    chip: Chip<'_>,
+    cells: &mut [u16],
+    copy: &[u16],
+    session: Session,
+    target: u8,
+    token: u128,
+) -> Outcome
     ensures { Executes (map_of chip.entry.map) (Command.Transition target token) session
         (lent_of cells.old copy.now chip.entry.constants.now)
         (lent_of cells.new copy.now chip.entry.constants.now) result }

@@ -1,8 +1,5 @@
--- The invariant: the blocks below the number are latched.
-use mathlib.Core.Path.{◌≡◌}
-use Prim.Native.Nat.{◌/◌}
-use lib.ListN.{length}
-use Rattle.partitions.specs.Map.{limit}
+-- The invariant: the words of the blocks below the number are latched.
+use Prim.Native.Nat.{◌*◌}
 use Rattle.partitions.specs.Maps.{map_of}
 use Rattle.model.specs.PowerUp.{copy_word}
 use Rattle.chip.specs.Chip.{primitives}
@@ -10,5 +7,4 @@ use Rattle.power_up.proofs.Sensing.{Latched}
 use Rattle.power_up.proofs.latch.Given as goal
 
 abbrev pub invariant-loop-number : goal.invariant-loop-number
-invariant-loop-number l =
-    (length l.copy ≡ limit (map_of l.chip.map) / 2) × Latched (copy_word primitives (map_of l.chip.map) l.chip.constants.now l.cells) l.copy l.number
+invariant-loop-number l = Latched (copy_word primitives (map_of l.chip.map) l.chip.constants.now l.cells) l.copy (4 * l.number)
