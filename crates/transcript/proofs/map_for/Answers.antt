@@ -9,6 +9,6 @@ pub returns-then-image-eq-END : goal.returns-then-image-eq-END
 unfolding map_for
 returns-then-image-eq-END c = sym (if-true _ _ (eq-eqb _ _ c.if-image-eq-END.true))
 
-pub returns : goal.returns
+pub returns-else-image-eq-END : goal.returns-else-image-eq-END
 unfolding map_for
-returns c = sym (if-false _ _ (ne_eqb _ _ c.if-image-eq-END.false))
+returns-else-image-eq-END c = sym (if-false _ _ (ne_eqb _ _ c.if-image-eq-END.false))
