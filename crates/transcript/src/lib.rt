@@ -8,6 +8,7 @@ ghost use Rattle.transcript.specs.Files.{lent_words};
 ghost use Rattle.transcript.specs.Transcript.{refused_kind, map_for, lines_of};
 ghost use Rattle.transcript.specs.Runs.{stopped_of, run_of, run_with};
 
+use chip::Chip;
 use model::{Outcome, Session};
 use partitions::{MapName, map2};
 use script::{Reader, Reading, Refusal};
@@ -56,14 +57,14 @@ fn stopped(script: &[u8], reading: Reading) -> Continuation
 // were where there is no record.
 pub fn run_record(
     reader: Reader<'_>,
+    chip: Chip<'_>,
     cells: &mut [u16],
     copy: &mut [u16],
-    constants: &[u16],
-    map: MapName,
     session: Session,
 ) -> RunOutcome
-    ensures { run_with (lent_of cells.new copy.new constants.now) result
-        ≡ run_of (map_of map) reader.entry.script.now reader.entry.place (machine_of (lent_of cells.old copy.old constants.now) session) }
+    ensures { run_with (lent_of cells.new copy.new chip.entry.constants.now) result
+        ≡ run_of (map_of chip.entry.map) reader.entry.script.now reader.entry.place
+            (machine_of (lent_of cells.old copy.old chip.entry.constants.now) session) }
 {
     let reading = reader.next();
     let Reading::Record(command, next) = reading else {
@@ -73,9 +74,9 @@ pub fn run_record(
             place: reader.place,
         };
     };
-    let Outcome { session, answer } = controller::execute(cells, copy, constants, map, session, command);
+    let Outcome { session, answer } = controller::execute(chip, cells, copy, session, command);
     let kind = u8::from(script::kind_of(command));
-    let line = script::line(kind, answer.code(), answer.value());
+    let line = script::line(kind, model::code_of(answer), model::value_of(answer));
     RunOutcome {
         session,
         continuation: Continuation::Continues(line),
@@ -84,6 +85,7 @@ pub fn run_record(
 }
 
 // The map that an image is taken for, by its length in bytes.
+#[tactic(auto, using(crate::proofs::Maps::maps_named))]
 pub fn map_for(image: &[u8]) -> MapName
     ensures { result ≡ map_for image.now }
 {
