@@ -12,7 +12,7 @@ use Rattle.partitions.specs.Map.{Map}
 use Rattle.model.specs.declared.Command.{Command}
 use Rattle.model.specs.Answers.{code_of, value_of}
 use Rattle.model.specs.Lent.{Lent, Machine}
-use Rattle.model.specs.Step.{Result}
+use Rattle.model.specs.Step.{Answered}
 use Rattle.chip.specs.Chip.{lent_of, result_for}
 use Rattle.script.specs.declared.Refusal.{Refusal}
 use Rattle.script.specs.declared.Reading.TheVariants.{Record, End, Refused}
@@ -30,10 +30,10 @@ pub step-refused : (map : Map) (script : List ℕ) (m : Machine) (refusal : Refu
 unfolding step_of step_by
 step-refused map script m refusal at code found c = rw (found, c)
 
-abbrev stepped : Result → ℕ → ℕ → FrameStep
+abbrev stepped : Answered → ℕ → ℕ → FrameStep
 stepped r code value = record { machine = r.machine; code = code; value = value }
 
-pub step-done : (map : Map) (script : List ℕ) (m : Machine) (command : Command) (next : ℕ) (r : Result) (code value : ℕ)
+pub step-done : (map : Map) (script : List ℕ) (m : Machine) (command : Command) (next : ℕ) (r : Answered) (code value : ℕ)
     → next_at script 0 ≡ Record command next → r ≡ result_for map command m
     → code ≡ code_of r.answer → value ≡ value_of r.answer
     → stepped r code value ≡ step_of map script m

@@ -9,31 +9,31 @@ pub returns-in-Record : goal.returns-in-Record
 returns-in-Record c =
     let o = c.args in
     step-done
-    (map_of o.map)
+    (map_of o.chip.map)
     o.script.now
-    (machine_of (lent_of o.cells.now o.copy.now o.constants.now) o.session)
+    (machine_of (lent_of o.cells.now o.copy.now o.chip.constants.now) o.session)
     c.in-Record.command
     _
-    (result_of (lent_of c.execute-outcome.new.cells c.execute-outcome.new.copy o.constants.now) c.execute-outcome.result)
-    c.code.result
-    c.value.result
+    (result_of (lent_of c.execute.new.cells c.execute.new.copy o.chip.constants.now) c.execute.result)
+    c.code_of.result
+    c.value_of.result
     (sym c.read_at.ensures ∙ c.in-Record.is)
-    c.execute-outcome.ensures
-    c.code.ensures
-    c.value.ensures
+    c.execute.ensures
+    c.code_of.ensures
+    c.value_of.ensures
 
 pub returns-in-End : goal.returns-in-End
 returns-in-End c =
     let o = c.args in
-    step-ended (map_of o.map) o.script.now (machine_of (lent_of o.cells.now o.copy.now o.constants.now) o.session) (sym c.read_at.ensures ∙ c.in-End.is)
+    step-ended (map_of o.chip.map) o.script.now (machine_of (lent_of o.cells.now o.copy.now o.chip.constants.now) o.session) (sym c.read_at.ensures ∙ c.in-End.is)
 
 pub returns-in-Refused : goal.returns-in-Refused
 returns-in-Refused c =
     let o = c.args in
     step-refused
-    (map_of o.map)
+    (map_of o.chip.map)
     o.script.now
-    (machine_of (lent_of o.cells.now o.copy.now o.constants.now) o.session)
+    (machine_of (lent_of o.cells.now o.copy.now o.chip.constants.now) o.session)
     c.in-Refused.refusal
     c.in-Refused.at
     c.code-in-Refused.result

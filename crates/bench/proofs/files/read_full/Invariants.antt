@@ -1,7 +1,7 @@
 -- The invariant: what was done lies within the bytes, and is what the reader gave. The measure is what is left.
 use Rattle.std.proofs.Common.{◌≡◌, ◌-◌, ◌≤◌, length, take}
 use Rattle.std.specs.Io.KnownBytes.{Consumes}
-use Rattle.bench.proofs.read_full.Given as goal
+use Rattle.bench.proofs.files.read_full.Given as goal
 
 abbrev pub invariant-loop-done : goal.invariant-loop-done
 invariant-loop-done g l =
