@@ -47,9 +47,9 @@ take-listed f i (suc n) zero h = absurd (omega arith)
 take-listed f i (suc n) (suc most) h = ap (λ (l : List ℕ). f i ∷ l) (take-listed f (suc i) n most (omega arith))
 
 -- what is lent is the smaller of the number and of what the area has
-pub lent-least : (frame : List ℕ) (at most : ℕ) → min (little_endian_at frame at 2) most ≡ lent_in frame at most
+pub lent_least : (frame : List ℕ) (at most : ℕ) → min (little_endian_at frame at 2) most ≡ lent_in frame at most
 unfolding lent_in
-lent-least frame at most =
+lent_least frame at most =
     let n = little_endian_at frame at 2 in
     if-both (λ (k : ℕ). min n most ≡ k) (ltb most n) most n (λ t. omega (arith, ltb-true)) (λ t. omega (arith, ltb-false))
 

@@ -8,6 +8,7 @@ use partitions::MapName;
 use std::array;
 
 // The map of a frame.
+#[tactic(auto, using(chip::proofs::Reading::choices), unfolding(crate::specs::Frames::map_in))]
 pub(crate) fn map_in(frame: &[u8; 5120]) -> MapName
     ensures { result ≡ map_in frame.now }
 {
@@ -18,6 +19,7 @@ pub(crate) fn map_in(frame: &[u8; 5120]) -> MapName
 }
 
 // The phase of a number.
+#[tactic(auto, using(chip::proofs::Reading::choices), unfolding(crate::specs::Frames::phase_of))]
 fn phase_of(number: u8) -> Phase
     ensures { result ≡ phase_of number }
 {
@@ -45,6 +47,7 @@ pub(crate) fn session_in(frame: &[u8; 5120]) -> Session
 }
 
 // How many words are lent of an area that has `most`, by the number at a place.
+#[tactic(auto, using(crate::proofs::Steps::lent_least))]
 pub(crate) fn lent_in(frame: &[u8; 5120], at: usize, most: usize) -> usize
     requires { at + 2 ≤ 5120 }
     ensures { (result ≡ lent_in frame.now at most) × (result ≤ most) }
