@@ -23,6 +23,7 @@ struct Stepped {
 }
 
 // Executes the record at the start of a script. Where there is none, the code and the value are those of the refusal, and nothing changes.
+#[tactic(auto, unfolding(crate::specs::Frames::step_of, crate::specs::Frames::step_by))]
 fn perform(
     chip: Chip<'_>,
     script: &[u8],

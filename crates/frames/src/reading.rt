@@ -47,7 +47,7 @@ pub(crate) fn session_in(frame: &[u8; 5120]) -> Session
 }
 
 // How many words are lent of an area that has `most`, by the number at a place.
-#[tactic(auto, using(crate::proofs::Steps::lent_least))]
+#[tactic(auto, using(crate::proofs::Lent::lent_least))]
 pub(crate) fn lent_in(frame: &[u8; 5120], at: usize, most: usize) -> usize
     requires { at + 2 ≤ 5120 }
     ensures { (result ≡ lent_in frame.now at most) × (result ≤ most) }

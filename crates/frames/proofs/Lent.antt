@@ -1,4 +1,4 @@
--- Laws of a step, over what its code found. The idea: the reading decides which clause of `step_by` is due.
+-- Laws of what a frame lends. The idea: the words that are lent are the first of those that are read.
 use Prim.Native.Nat.{ℕ, zero, suc, min, ◌≤◌}
 use mathlib.Core.Path.{◌≡◌, refl, ap, ◌∙◌}
 use mathlib.Core.List.{List, ◌∷◌}
@@ -8,37 +8,11 @@ use lib.ListN.{take}
 use borrow.Author.Tests.{ltb-true, ltb-false}
 use Rattle.basics.specs.Range.{listed}
 use Rattle.basics.proofs.Choice.{if-both}
-use Rattle.partitions.specs.Map.{Map}
-use Rattle.model.specs.declared.Command.{Command}
-use Rattle.model.specs.Answers.{code_of, value_of}
-use Rattle.model.specs.Lent.{Lent, Machine}
-use Rattle.model.specs.Step.{Answered}
-use Rattle.chip.specs.Chip.{lent_of, result_for}
-use Rattle.script.specs.declared.Refusal.{Refusal}
-use Rattle.script.specs.declared.Reading.TheVariants.{Record, End, Refused}
-use Rattle.script.specs.Records.{little_endian_at, next_at, refusal_code}
+use Rattle.model.specs.Lent.{Lent}
+use Rattle.chip.specs.Chip.{lent_of}
+use Rattle.script.specs.Records.{little_endian_at}
 use Rattle.frames.specs.Bytes.{numbers_at}
-use Rattle.frames.specs.Frames.{lent_in, cells_in, copy_in, constants_in, FrameStep, step_by, step_of}
-use Rattle.frames.specs.Frames.{frame_on, frame_after}
-
-pub step-ended : (map : Map) (script : List ℕ) (m : Machine) → next_at script 0 ≡ End → record { machine = m; code = 0; value = 0 } ≡ step_of map script m
-unfolding step_of step_by
-step-ended map script m found = rw found
-
-pub step-refused : (map : Map) (script : List ℕ) (m : Machine) (refusal : Refusal) (at code : ℕ)
-    → next_at script 0 ≡ Refused refusal at → code ≡ refusal_code refusal → record { machine = m; code = code; value = at } ≡ step_of map script m
-unfolding step_of step_by
-step-refused map script m refusal at code found c = rw (found, c)
-
-abbrev stepped : Answered → ℕ → ℕ → FrameStep
-stepped r code value = record { machine = r.machine; code = code; value = value }
-
-pub step-done : (map : Map) (script : List ℕ) (m : Machine) (command : Command) (next : ℕ) (r : Answered) (code value : ℕ)
-    → next_at script 0 ≡ Record command next → r ≡ result_for map command m
-    → code ≡ code_of r.answer → value ≡ value_of r.answer
-    → stepped r code value ≡ step_of map script m
-unfolding step_of step_by
-step-done map script m command next r code value found done c v = rw (found, c, v, done)
+use Rattle.frames.specs.Frames.{lent_in, cells_in, copy_in, constants_in, frame_on, frame_after}
 
 take-listed : (f : ℕ → ℕ) (i n most : ℕ) → n ≤ most → take n (listed f i most) ≡ listed f i n
 unfolding listed
