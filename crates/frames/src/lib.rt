@@ -1,4 +1,5 @@
-// Single steps on any machine: a frame of 5,120 bytes holds a machine and a record; a step executes it and answers in its place.
+// Single steps on any machine: a frame of 5,120 bytes holds a machine and a record; a step executes it and answers in its place. `specs/Frames.antt` has
+// the layout.
 #![tactic(auto)]
 
 mod numbers;

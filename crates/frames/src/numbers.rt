@@ -36,6 +36,7 @@ pub(crate) fn put_words(part: &mut [u8], words: &[u16])
     requires { length part.old ≡ 2 * length words.now }
     ensures { part.new ≡ all_bytes 2 words.now }
 {
+    // Kept (proof): after a loop over `part.chunks_exact_mut(2)` a proof knows no element.
     for (i, word) in words.iter().enumerate() {
         part[2 * i..2 * i + 2].copy_from_slice(&word.to_le_bytes());
     }

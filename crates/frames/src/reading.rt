@@ -13,12 +13,14 @@ pub(crate) fn map_in(frame: &[u8; 5120]) -> MapName
     ensures { result ≡ map_in frame.now }
 {
     if frame[0] == 2 {
-        return MapName::Map2;
+        MapName::Map2
+    } else {
+        MapName::Map1
     }
-    MapName::Map1
 }
 
 // The phase of a number.
+// Kept (plainer): a `From` would stand in `model`, beside the type, and `model` knows no frame.
 #[tactic(auto, using(chip::proofs::Reading::choices), unfolding(crate::specs::Frames::phase_of))]
 fn phase_of(number: u8) -> Phase
     ensures { result ≡ phase_of number }
