@@ -17,20 +17,6 @@ use Rattle.basics.proofs.Range.{length-listed}
 use Rattle.script.specs.Records.{byte_at, little_endian_at}
 use Rattle.frames.specs.Bytes.{bytes_of, all_bytes, zeros}
 
--- ---- numbers read
-
-through : (s b : List ℕ) (at k : ℕ) → ((i : ℕ) → i ≤ k → get_or b i 0 ≡ byte_at s (at + i))
-    → sum_through (λ i. byte_worth i (get_or b i 0)) k ≡ little_endian_at s at (suc k)
-unfolding little_endian_at sum
-through s b at zero h = omega (arith, h 0 (omega arith))
-through s b at (suc k) h = rw (through s b at k (λ i l. h i (omega arith)), h (suc k) (omega arith)) (add_comm _ _)
-
--- the number of the suc k bytes from a place on
-pub read : (s : List ℕ) (at k : ℕ) (b : List ℕ) → b ≡ take (suc k) (drop at s)
-    → sum_through (λ i. byte_worth i (get_or b i 0)) k ≡ little_endian_at s at (suc k)
-read s at k b e =
-    through s b at k (λ i l. ap (λ (c : List ℕ). get_or c i 0) e ∙ get_or-take (suc k) (drop at s) i 0 (omega arith) ∙ get_or-drop at s i 0)
-
 -- ---- the bytes of a number
 
 low_byte : (i x : ℕ) → low_byte_at i x ≡ digit 256 x i

@@ -1,5 +1,5 @@
 pub mod Bytes
+pub mod Lent
 pub mod Locks
 pub mod Made
 pub mod Parts
-pub mod Steps

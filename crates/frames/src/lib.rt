@@ -1,4 +1,5 @@
-// Single steps on any machine: a frame of 5,120 bytes holds a machine and a record; a step executes it and answers in its place.
+// Single steps on any machine: a frame of 5,120 bytes holds a machine and a record; a step executes it and answers in its place. `specs/Frames.antt` has
+// the layout.
 #![tactic(auto)]
 
 mod numbers;
@@ -10,8 +11,8 @@ ghost use Rattle.partitions.specs.Maps.{map_of};
 ghost use Rattle.chip.specs.Chip.{lent_of, machine_of};
 ghost use Rattle.frames.specs.Frames.{step_of, step_with, frame_on, frame_after};
 
-use model::Session;
-use partitions::MapName;
+use chip::Chip;
+use model::{Outcome, Session};
 use script::Reading;
 
 // What a step gives back beside what is lent.
@@ -23,24 +24,24 @@ struct Stepped {
 }
 
 // Executes the record at the start of a script. Where there is none, the code and the value are those of the refusal, and nothing changes.
+#[tactic(auto, unfolding(crate::specs::Frames::step_of, crate::specs::Frames::step_by))]
 fn perform(
+    chip: Chip<'_>,
     script: &[u8],
     cells: &mut [u16],
     copy: &mut [u16],
-    constants: &[u16],
-    map: MapName,
     session: Session,
 ) -> Stepped
-    ensures { step_with (lent_of cells.new copy.new constants.now) result
-        ≡ step_of (map_of map) script.now (machine_of (lent_of cells.old copy.old constants.now) session) }
+    ensures { step_with (lent_of cells.new copy.new chip.entry.constants.now) result
+        ≡ step_of (map_of chip.entry.map) script.now (machine_of (lent_of cells.old copy.old chip.entry.constants.now) session) }
 {
     match script::read_at(script, 0) {
         Reading::Record(command, _) => {
-            let outcome = controller::execute(cells, copy, constants, map, session, command);
+            let Outcome { session, answer } = controller::execute(chip, cells, copy, session, command);
             Stepped {
-                session: outcome.session,
-                code: outcome.answer.code(),
-                value: outcome.answer.value(),
+                session,
+                code: model::code_of(answer),
+                value: model::value_of(answer),
             }
         }
         Reading::End => Stepped {
@@ -61,9 +62,12 @@ fn step_on(frame: &mut [u8; 5120], cells: &mut [u16], copy: &mut [u16], constant
     requires { (length cells.old ≤ 1030) × (length copy.old ≤ 1030) }
     ensures { frame.new ≡ frame_on (lent_of cells.old copy.old constants.now) frame.old }
 {
-    let map = reading::map_in(frame);
+    let chip = Chip {
+        map: reading::map_in(frame),
+        constants,
+    };
     let session = reading::session_in(frame);
-    let stepped = perform(&frame[112..144], cells, copy, constants, map, session);
+    let stepped = perform(chip, &frame[112..144], cells, copy, session);
     writing::put_session(frame, stepped.session);
     writing::put_answer(frame, stepped.code, stepped.value);
     writing::put_memory(frame, cells, copy);

@@ -8,16 +8,20 @@ use partitions::MapName;
 use std::array;
 
 // The map of a frame.
+#[tactic(auto, using(chip::proofs::Reading::choices), unfolding(crate::specs::Frames::map_in))]
 pub(crate) fn map_in(frame: &[u8; 5120]) -> MapName
     ensures { result ≡ map_in frame.now }
 {
     if frame[0] == 2 {
-        return MapName::Map2;
+        MapName::Map2
+    } else {
+        MapName::Map1
     }
-    MapName::Map1
 }
 
 // The phase of a number.
+// Kept (plainer): a `From` would stand in `model`, beside the type, and `model` knows no frame.
+#[tactic(auto, using(chip::proofs::Reading::choices), unfolding(crate::specs::Frames::phase_of))]
 fn phase_of(number: u8) -> Phase
     ensures { result ≡ phase_of number }
 {
@@ -45,6 +49,7 @@ pub(crate) fn session_in(frame: &[u8; 5120]) -> Session
 }
 
 // How many words are lent of an area that has `most`, by the number at a place.
+#[tactic(auto, using(crate::proofs::Lent::lent_least))]
 pub(crate) fn lent_in(frame: &[u8; 5120], at: usize, most: usize) -> usize
     requires { at + 2 ≤ 5120 }
     ensures { (result ≡ lent_in frame.now at most) × (result ≤ most) }

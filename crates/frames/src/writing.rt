@@ -6,6 +6,7 @@ use crate::numbers;
 use model::{Phase, Reason, Session};
 
 // The number of a phase; that of a dead one is its reason's.
+// Kept (plainer): as `reading::phase_of`.
 #[tactic(auto, unfolding(crate::specs::Frames::phase_number))]
 fn phase_number(phase: Phase) -> u8
     ensures { result ≡ phase_number phase }

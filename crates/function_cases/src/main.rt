@@ -31,9 +31,9 @@ pub(crate) struct Answer {
 }
 
 // An answer without data.
-fn number(res: u64) -> Answer {
+fn number(value: u64) -> Answer {
     Answer {
-        result: res,
+        result: value,
         data: [0; 96],
     }
 }
@@ -69,6 +69,7 @@ fn case_of(bytes: &[u8; 256]) -> Case<'_> {
 }
 
 fn answer_to(case: Case<'_>) -> Answer {
+    // Kept (plainer): an enum of the operations would be made from these numbers and matched here, each row twice.
     match case.operation {
         1 => number(present::encrypt(whole(case.a, case.b), case.c)),
         2 => number(present::decrypt(whole(case.a, case.b), case.c)),

@@ -1,7 +1,8 @@
 // The life cycle: counter and state words, their decoding, and the transition table.
 #![tactic(auto)]
 
-ghost use Rattle.std.specs.Prelude.{◌≡◌, ◌<◌};
+ghost use Rattle.std.specs.Prelude.{◌≡◌, ◌<◌, eqb, get_or};
+ghost use Rattle.basics.specs.Choice.{when◌then◌else◌};
 ghost use Rattle.life_cycle.specs.Words.{counter_word, counter_words, has_b, state_word, state_words, encoded_by, decoded};
 ghost use Rattle.life_cycle.specs.Transitions.{is_test, is_unlocked, is_locked, test_index, table_entry};
 
@@ -46,18 +47,30 @@ pub enum Token {
     Rma,
 }
 
+// A word of a number: blank for 0, and for another number its upper constant where it marks the word, its lower one where it doesn't.
+fn coded_word(constants: &[u16], number: u8, marked: bool, upper: usize, lower: usize) -> u16
+    ensures { result ≡ (when eqb number 0 then 0 else when marked then get_or constants.now upper 0 else get_or constants.now lower 0) }
+{
+    match (number, marked) {
+        (0, _) => 0,
+        (_, true) => word_at(constants, upper),
+        (_, false) => word_at(constants, lower),
+    }
+}
+
 // Word i of a stroke count.
+#[tactic(auto, unfolding(crate::specs::Words::counter_word))]
 fn counter_word(constants: &[u16], count: u8, i: usize) -> u16
     requires { i < 24 }
     ensures { result ≡ counter_word constants.now count i }
 {
-    if count == 0 {
-        0
-    } else if i < usize::from(count) {
-        word_at(constants, FIRST_D + i)
-    } else {
-        word_at(constants, FIRST_C + i)
-    }
+    coded_word(
+        constants,
+        count,
+        i < usize::from(count),
+        FIRST_D + i,
+        FIRST_C + i,
+    )
 }
 
 // The counter words of a stroke count.
@@ -82,17 +95,12 @@ fn has_b(state: u8, i: usize) -> bool
 }
 
 // Word i of a state.
+#[tactic(auto, unfolding(crate::specs::Words::state_word))]
 fn state_word(constants: &[u16], state: u8, i: usize) -> u16
     requires { i < 20 }
     ensures { result ≡ state_word constants.now state i }
 {
-    if state == RAW {
-        0
-    } else if has_b(state, i) {
-        word_at(constants, FIRST_B + i)
-    } else {
-        word_at(constants, FIRST_A + i)
-    }
+    coded_word(constants, state, has_b(state, i), FIRST_B + i, FIRST_A + i)
 }
 
 // The state words of a state.
@@ -130,18 +138,21 @@ pub fn decode(constants: &[u16], counter: &[u16], state: &[u16]) -> Option<LifeC
     }
 }
 
+#[tactic(auto, unfolding(crate::specs::Transitions::is_test))]
 fn is_test(state: u8) -> bool
     ensures { result ≡ is_test state }
 {
     (TEST_UNLOCKED0 <= state) & (state <= TEST_UNLOCKED7)
 }
 
+#[tactic(auto, unfolding(crate::specs::Transitions::is_unlocked))]
 fn is_unlocked(state: u8) -> bool
     ensures { result ≡ is_unlocked state }
 {
     is_test(state) & (state % 2 == 1)
 }
 
+#[tactic(auto, unfolding(crate::specs::Transitions::is_locked))]
 fn is_locked(state: u8) -> bool
     ensures { result ≡ is_locked state }
 {
@@ -149,6 +160,7 @@ fn is_locked(state: u8) -> bool
 }
 
 // The n of TEST_UNLOCKEDn or TEST_LOCKEDn.
+#[tactic(auto, unfolding(crate::specs::Transitions::test_index))]
 fn test_index(state: u8) -> u8
     ensures { result ≡ test_index state }
 {

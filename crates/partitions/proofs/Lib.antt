@@ -1,5 +1,6 @@
 pub mod KindRights
 pub mod Map
+pub mod FirstOfKind
 pub mod Granules
 pub mod Secrets
 pub mod Maps

@@ -2,10 +2,10 @@
 use mathlib.Core.Path.{◌≡◌, refl, ap, ◌∙◌}
 use mathlib.Core.Bool.{true, false, not, ◌&&◌}
 use mathlib.Core.List.{[], ◌∷◌}
-use Prim.Native.Nat.{ℕ, zero, suc, ◌+◌, ◌*◌, ◌/◌, ◌%◌, ◌≤◌, ◌<◌}
+use Prim.Native.Nat.{ℕ, zero, suc, ◌+◌, ◌-◌, ◌*◌, ◌/◌, ◌%◌, ◌≤◌, ◌<◌}
 use native.Mathlib.Omega.{arith}
 use lib.Dec.{eqb, leb, ltb}
-use lib.ListN.{length, get_or-eq_default}
+use lib.ListN.{length, get_or, get_or-eq_default}
 use borrow.Author.Tests.{eqb-true, leb-true, ltb-true, ltb-false, lt-ltb, le-ltb, le-leb, not-true}
 use Rattle.basics.specs.Choice.{when◌then◌else◌}
 use Rattle.basics.proofs.Choice.{by_cases, true-not-false, not-passed, and_left, and_right, and_both, and-three, if-true, if-false}
@@ -213,6 +213,14 @@ life-cycle-from (p ∷ q ∷ ps) at h =
     ap suc (if-false _ _ (life-cycle-direct p.kind ∙ ap not r.0) ∙ life-cycle-from (q ∷ ps) p.end r.1)
 
 -- ---- the laws
+
+pub limit_last : (map : Map) (d : Partition) → 0 < length map → limit map ≡ (get_or map (length map - 1) d).end
+unfolding limit
+limit_last [] d h = absurd (omega arith)
+limit_last (p ∷ []) d h = refl
+limit_last (p ∷ q ∷ ps) d h =
+    let e : length (p ∷ q ∷ ps) - 1 ≡ suc (length (q ∷ ps) - 1) = omega arith in
+    rw e (limit_last (q ∷ ps) d (omega arith))
 
 pub partition-at : (map : Map) (a : ℕ) {n : ℕ} → number_at map a ≡ n → partition_at map a ≡ partition map n
 unfolding partition_at

@@ -2,14 +2,27 @@
 // in the map's module.
 #![tactic(auto)]
 
+// The partition that a type stands for, by the type's constants.
+macro_rules! partition {
+    ($part:ident) => {
+        Partition {
+            kind: $part::KIND,
+            start: $part::START,
+            digest: $part::DIGEST,
+            end: $part::END,
+            granule: $part::GRANULE,
+        }
+    };
+}
+
 pub mod map1;
 pub mod map2;
 
-ghost use Rattle.std.specs.Prelude.{◌≡◌, ◌/◌, length};
-ghost use Rattle.partitions.specs.Map.{rights_of, number_at, partition, limit, in_digest, granule_at, first_word, word_count, number_of_kind};
+ghost use Rattle.std.specs.Prelude.{◌≡◌, ◌==◌, ◌/◌, length, position};
+ghost use Rattle.partitions.specs.Map.{rights_of, number_at, partition, limit, in_digest, granule_at, first_word, word_count, kind_number, number_of_kind};
 ghost use Rattle.partitions.specs.Maps.{map_of};
 
-#[derive(Clone, Copy)]
+#[derive(Clone, Copy, PartialEq, Eq)]
 pub enum Kind {
     Software,
     AuthState,
@@ -43,42 +56,6 @@ pub struct Partition {
 
 // What documents 01 and 02 grant each kind, the three secrets alike.
 impl Rights {
-    const SOFTWARE: Rights = Rights {
-        direct: true,
-        lockable: true,
-        hardware: false,
-        scrambled: false,
-        front: false,
-        additive: false,
-    };
-
-    const AUTH_STATE: Rights = Rights {
-        direct: true,
-        lockable: true,
-        hardware: false,
-        scrambled: false,
-        front: false,
-        additive: true,
-    };
-
-    const HW_CFG: Rights = Rights {
-        direct: true,
-        lockable: false,
-        hardware: true,
-        scrambled: false,
-        front: true,
-        additive: false,
-    };
-
-    const SECRET: Rights = Rights {
-        direct: true,
-        lockable: false,
-        hardware: true,
-        scrambled: true,
-        front: false,
-        additive: false,
-    };
-
     const LIFE_CYCLE: Rights = Rights {
         direct: false,
         lockable: false,
@@ -87,9 +64,35 @@ impl Rights {
         front: false,
         additive: false,
     };
+
+    const SOFTWARE: Rights = Rights {
+        direct: true,
+        lockable: true,
+        ..Rights::LIFE_CYCLE
+    };
+
+    const AUTH_STATE: Rights = Rights {
+        additive: true,
+        ..Rights::SOFTWARE
+    };
+
+    const HW_CFG: Rights = Rights {
+        direct: true,
+        hardware: true,
+        front: true,
+        ..Rights::LIFE_CYCLE
+    };
+
+    const SECRET: Rights = Rights {
+        direct: true,
+        hardware: true,
+        scrambled: true,
+        ..Rights::LIFE_CYCLE
+    };
 }
 
 impl Kind {
+    #[tactic(auto, unfolding(crate::specs::Map::rights_of))]
     pub fn rights(self) -> Rights
         ensures { result ≡ rights_of self }
     {
@@ -97,9 +100,7 @@ impl Kind {
             Kind::Software => Rights::SOFTWARE,
             Kind::AuthState => Rights::AUTH_STATE,
             Kind::HwCfg => Rights::HW_CFG,
-            Kind::Secret0 => Rights::SECRET,
-            Kind::Secret1 => Rights::SECRET,
-            Kind::Secret2 => Rights::SECRET,
+            Kind::Secret0 | Kind::Secret1 | Kind::Secret2 => Rights::SECRET,
             Kind::LifeCycle => Rights::LIFE_CYCLE,
         }
     }
@@ -129,11 +130,18 @@ impl Partition {
     pub fn rights(self) -> Rights
         ensures { result ≡ rights_of self.kind }
     {
-        let kind = self.kind;
-        kind.rights()
+        self.kind.rights()
+    }
+
+    // Whether it is of a kind.
+    fn is_of(self, kind: Kind) -> bool
+        ensures { result ≡ (kind_number self.kind == kind_number kind) }
+    {
+        self.kind == kind
     }
 
     // Whether a byte address of the partition is in its digest; else it is in its data.
+    #[tactic(auto, unfolding(crate::specs::Map::in_digest))]
     pub fn in_digest(self, address: usize) -> bool
         ensures { result ≡ in_digest self address }
     {
@@ -168,6 +176,15 @@ impl Partition {
     }
 }
 
+// The place of the first partition of a kind.
+fn first_of(partitions: &[Partition], kind: Kind) -> Option<usize>
+    ensures { result ≡ position (λ p. kind_number p.kind == kind_number kind) partitions.now }
+{
+    partitions
+        .iter()
+        .position(|partition| partition.is_of(kind))
+}
+
 // The maps that a caller can name.
 #[derive(Clone, Copy)]
 pub enum MapName {
@@ -176,23 +193,32 @@ pub enum MapName {
 }
 
 impl MapName {
+    // Its partitions, by number.
+    #[tactic(auto, unfolding(crate::specs::Maps::map_of, crate::specs::Map1::map1, crate::specs::Map2::map2))]
+    pub fn partitions(self) -> &'static [Partition]
+        ensures { result.now ≡ map_of self }
+    {
+        match self {
+            MapName::Map1 => &map1::PARTITIONS,
+            MapName::Map2 => &map2::PARTITIONS,
+        }
+    }
+
     // How many partitions the map has.
     pub fn count(self) -> usize
         ensures { result ≡ length (map_of self) }
     {
-        match self {
-            MapName::Map1 => map1::COUNT,
-            MapName::Map2 => map2::COUNT,
-        }
+        self.partitions().len()
     }
 
     // The first byte address past the map.
+    #[tactic(auto, using(crate::proofs::Map::limit_last), unfolding(crate::specs::Map::limit))]
     pub fn limit(self) -> usize
         ensures { result ≡ limit (map_of self) }
     {
-        match self {
-            MapName::Map1 => map1::LifeCycle::END,
-            MapName::Map2 => map2::LifeCycle::END,
+        match self.partitions() {
+            [] => 0,
+            [.., last] => last.end,
         }
     }
 
@@ -204,6 +230,7 @@ impl MapName {
     }
 
     // The number of the partition that holds a byte address, or the count where none does.
+    #[tactic(auto, unfolding(crate::specs::Maps::map_of))]
     pub fn number_at(self, address: usize) -> usize
         ensures { result ≡ number_at (map_of self) address }
     {
@@ -214,22 +241,21 @@ impl MapName {
     }
 
     // The partition of a number, or nowhere past the last one.
+    #[tactic(auto, unfolding(crate::specs::Map::partition, crate::specs::Map::nowhere))]
     pub fn partition_of(self, number: usize) -> Partition
         ensures { result ≡ partition (map_of self) number }
     {
-        match self {
-            MapName::Map1 => map1::partition_of(number),
-            MapName::Map2 => map2::partition_of(number),
-        }
+        let partitions = self.partitions();
+        partitions
+            .get(number)
+            .copied()
+            .unwrap_or(Partition::NOWHERE)
     }
 
     // The number of the first partition of a kind, or the count where there is none.
     pub fn number_of_kind(self, kind: Kind) -> usize
         ensures { result ≡ number_of_kind (map_of self) kind }
     {
-        match self {
-            MapName::Map1 => map1::number_of_kind(kind),
-            MapName::Map2 => map2::number_of_kind(kind),
-        }
+        first_of(self.partitions(), kind).unwrap_or(self.count())
     }
 }

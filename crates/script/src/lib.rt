@@ -71,6 +71,14 @@ impl TryFrom<u8> for RecordKind {
     }
 }
 
+impl From<RecordKind> for u8 {
+    ghost from_gives = { λ kind byte. byte ≡ number_of_kind kind };
+
+    fn from(kind: RecordKind) -> u8 {
+        kind as u8
+    }
+}
+
 impl RecordKind {
     // How many bytes follow it.
     #[tactic(auto, using(crate::proofs::RecordKinds::body_lengths))]

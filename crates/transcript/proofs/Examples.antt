@@ -3,7 +3,7 @@ use Prim.Native.Nat.{ℕ, zero, suc, ◌≤◌}
 use mathlib.Core.Path.{◌≡◌, refl, sym, ap, subst, ◌∙◌}
 use mathlib.Core.Bool.{Bool, false}
 use mathlib.Core.List.{List, [], ◌∷◌, ◌++◌}
-use mathlib.Core.Option.{some}
+use Rattle.std.specs.Prelude.{Some}
 use native.Mathlib.Omega.{arith}
 use lib.Dec.{T, eqb, ltb, lit<, lit≤}
 use lib.ListN.{length, get_or, set, replicate, get_or-eq_default}
@@ -127,11 +127,11 @@ unfolding everything sum s_box substitute place permute round_key rotate_left61 
     digest_blocks blocks_of digest_words
 other-digest = refl
 
-verdict : (x : ℕ) → verdict_of primitives map2 (chip_of (image x) constants).lent ≡ some 6
+verdict : (x : ℕ) → verdict_of primitives map2 (chip_of (image x) constants).lent ≡ Some 6
 unfolding all words constants image
 verdict x =
     ap (λ (holds : Bool). when holds then first_not
-    (λ n. digest_holds primitives (file_words constants) (file_words (image x)) (partition map2 n)) 7 4 else some 6) other-digest
+    (λ n. digest_holds primitives (file_words constants) (file_words (image x)) (partition map2 n)) 7 4 else Some 6) other-digest
 
 matched : Matched primitives (map_used (image 0)) (commands_of (7 ∷ [])) (chip_of (image 0) constants) (chip_of (image 5) constants)
 unfolding all Matched words constants image

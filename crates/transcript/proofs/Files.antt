@@ -1,4 +1,4 @@
--- Laws of a file's words. The idea: word i is made of bytes 2 i and 2 i + 1, and a loop sets one word after the other.
+-- Laws of a file's words. The idea: word i is the number of the i-th two bytes, and a loop sets one word after the other.
 use Prim.Native.Nat.{ℕ, zero, suc, ◌+◌, ◌*◌, ◌/◌, ◌%◌, ◌≤◌, ◌<◌}
 use mathlib.Core.Path.{◌≡◌, refl, sym, ap, ◌∙◌}
 use mathlib.Core.Bool.{true, false}
@@ -6,6 +6,8 @@ use mathlib.Core.List.{List, [], ◌∷◌, ◌++◌}
 use native.Mathlib.Omega.{arith}
 use lib.Dec.{eqb, leb}
 use lib.ListN.{length, get_or, drop}
+use Rattle.std.specs.Int.{w16, from_le_bytes}
+use Rattle.std.specs.Simd.{first_chunks}
 use borrow.Author.Tests.{le-leb, lt-leb}
 use Rattle.basics.specs.Choice.{when◌then◌else◌}
 use Rattle.basics.proofs.Choice.{by_cases, if-true, if-false, if-both}
@@ -17,15 +19,15 @@ pairs-length [] = refl
 pairs-length (low ∷ []) = refl
 pairs-length (low ∷ high ∷ bytes) = omega (arith, pairs-length bytes)
 
-pub pair-at : (bytes : List ℕ) (i : ℕ) → i < length (pairs bytes) → get_or (pairs bytes) i 0 ≡ get_or bytes (2 * i) 0 + 256 * get_or bytes (2 * i + 1) 0
+-- the file's i-th two bytes as a number are its i-th word
+pub pair-chunk : (n : ℕ) (bytes : List ℕ) (i : ℕ) (d : List ℕ) → n ≡ length bytes / 2 → i < n
+    → from_le_bytes w16 (get_or (first_chunks 2 n bytes) i d) ≡ get_or (pairs bytes) i 0
 unfolding pairs
-pair-at [] i h = absurd (omega arith)
-pair-at (low ∷ []) i h = absurd (omega arith)
-pair-at (low ∷ high ∷ bytes) zero h = refl
-pair-at (low ∷ high ∷ bytes) (suc i) h =
-    let e : 2 * suc i ≡ suc (suc (2 * i)) = omega arith in
-    let o : 2 * suc i + 1 ≡ suc (suc (2 * i + 1)) = omega arith in
-    rw (o, e) (pair-at bytes i (omega arith))
+pair-chunk zero bytes i d e h = absurd (omega arith)
+pair-chunk (suc n) [] i d e h = absurd (omega arith)
+pair-chunk (suc n) (low ∷ []) i d e h = absurd (omega arith)
+pair-chunk (suc n) (low ∷ high ∷ bytes) zero d e h = omega arith
+pair-chunk (suc n) (low ∷ high ∷ bytes) (suc i) d e h = pair-chunk n bytes i d (omega arith) (omega arith)
 
 -- ---- how many words a file has, and how large they are
 

@@ -1,4 +1,5 @@
 pub mod Files
+pub mod Maps
 pub mod Runs
 pub mod Budget
 pub mod Transcript

@@ -8,9 +8,9 @@ use native.Mathlib.Numerals.{add-one}
 use native.Mathlib.Omega.{arith}
 use lib.ListN.{length}
 use Rattle.partitions.specs.Map.{Map}
-use Rattle.model.specs.declared.Answer.{Answer}
 use Rattle.model.specs.declared.Command.{Command}
 use Rattle.model.specs.declared.Command.TheVariants.{Read, Write, FrontRead, Digest, ReadLock, Transition, PowerUp}
+use Rattle.model.specs.Answers.{Answer}
 use Rattle.model.specs.Lent.{right_lengths}
 use Rattle.model.specs.Step.{answers}
 use Rattle.model.specs.Claims.Terms.{ValidInputs, Matched}
@@ -39,7 +39,7 @@ only-power-up (Write a value) e = absurd (omega (arith, e))
 only-power-up (FrontRead a) e = absurd (omega (arith, e))
 only-power-up (Digest a) e = absurd (omega (arith, e))
 only-power-up (ReadLock number) e = absurd (omega (arith, e))
-only-power-up (Transition target high low) e = absurd (omega (arith, e))
+only-power-up (Transition target token) e = absurd (omega (arith, e))
 only-power-up PowerUp e = refl
 
 module _ (P : List Command → Type 0) (s : List ℕ) (first : byte_at s 0 ≡ 7) (none : P []) (some : (l : List Command) → P (PowerUp ∷ l)) where

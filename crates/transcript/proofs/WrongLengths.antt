@@ -8,14 +8,14 @@ use native.Mathlib.Omega.{arith}
 use lib.Dec.{eqb, lit<}
 use lib.ListN.{length, replicate}
 use borrow.Author.Tests.{eq-eqb, ne_eqb, eqb-true}
-use Rattle.basics.proofs.Choice.{and-false, if-true, if-false, if-both}
-use Rattle.partitions.specs.declared.MapName.TheVariants.{Map1, Map2}
+use Rattle.std.specs.Prelude.{Err}
+use Rattle.basics.proofs.Choice.{and-false, if-true, if-both}
 use Rattle.partitions.specs.Map.{Map, limit}
 use Rattle.partitions.specs.Map1.{map1}
 use Rattle.partitions.specs.Map2.{map2}
 use Rattle.partitions.specs.Maps.{map_of}
 use Rattle.constants.specs.Constants.{constant_count}
-use Rattle.model.specs.declared.Answer.TheVariants.{WrongLength}
+use Rattle.model.specs.declared.Failure.TheVariants.{WrongLength}
 use Rattle.model.specs.declared.Command.{Command}
 use Rattle.model.specs.Lent.{right_sizes, Machine, right_lengths}
 use Rattle.model.specs.Step.{judgement, answers, machine_after, answer_to}
@@ -27,6 +27,7 @@ use Rattle.script.proofs.Records.{too_long}
 use Rattle.transcript.specs.Files.{pairs, file_words}
 use Rattle.transcript.specs.Transcript.{Line, refused_kind, lines_from, map_for, map_used, chip_of, lines_of, printed, transcript}
 use Rattle.transcript.proofs.Files.{pairs-length}
+use Rattle.transcript.proofs.Maps.{map1-named, map2-named}
 use Rattle.transcript.proofs.Lines.{lines-whole}
 use Rattle.transcript.specs.Printed.{commands_of, refusal_of, lines_for}
 use Rattle.transcript.specs.WrongLengths.{Wrong, wrong_lines, WrongLengths}
@@ -44,14 +45,6 @@ bytes-from bytes n some =
     (λ t e. omega (arith, eqb-true (length bytes % 2) 0 t, pairs-length bytes, e)) (λ t e. absurd (omega arith))
 
 -- ---- right and wrong lengths
-
-map1-named : (image : List ℕ) → (length image ≡ 1480 → ⊥) → map_for image ≡ Map1
-unfolding map_for
-map1-named image h = if-false _ _ (ne_eqb (length image) 1480 h)
-
-map2-named : (image : List ℕ) → length image ≡ 1480 → map_for image ≡ Map2
-unfolding map_for
-map2-named image h = if-true _ _ (eq-eqb (length image) 1480 h)
 
 first-map : (image constants : List ℕ) → length image ≡ 896 → length constants ≡ 2 * constant_count
     → (map_used image ≡ map1) × (right_lengths (map_used image) (chip_of image constants).lent ≡ true)
@@ -76,7 +69,7 @@ constants-wrong image constants h = rw (ne_eqb (length (file_words constants)) c
     (and-false (eqb (length (chip_of image constants).lent.cells) (limit (map_used image) / 2)
     && eqb (length (chip_of image constants).lent.copy) (limit (map_used image) / 2)) refl)
 
-step-wrong : (map : Map) (x : Command) (m : Machine) → right_lengths map m.lent ≡ false → result_for map x m ≡ record { machine = m; answer = WrongLength }
+step-wrong : (map : Map) (x : Command) (m : Machine) → right_lengths map m.lent ≡ false → result_for map x m ≡ record { machine = m; answer = Err WrongLength }
 unfolding judgement
 step-wrong map x m e = sym (refused-result map x m WrongLength (if-true _ _ (ap not e)))
 

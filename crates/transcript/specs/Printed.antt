@@ -1,9 +1,8 @@
 -- What is printed, claimed in the terms of the model: its answers to the commands of a script, and the reader's own line.
 use Rattle.std.specs.Prelude.{ℕ, zero, suc, ◌+◌, ◌<◌, ◌≡◌, true, List, [], ◌∷◌, ◌++◌, length, get_or}
 use Rattle.constants.specs.Constants.{valid_constants}
-use Rattle.model.specs.declared.Answer.{Answer}
 use Rattle.model.specs.declared.Command.{Command}
-use Rattle.model.specs.Answers.{code_of, value_of}
+use Rattle.model.specs.Answers.{Answer, code_of, value_of}
 use Rattle.model.specs.Lent.{right_lengths}
 use Rattle.model.specs.Step.{answers}
 use Rattle.model.specs.Claims.Terms.{Matched, Alike}

@@ -1,5 +1,5 @@
 -- One record's run: the next record is read and executed, and gives a line; or the script ends, or a refusal's line is the last.
-use Rattle.std.specs.Prelude.{ℕ, zero, suc, ◌+◌, List, ◌++◌, replicate}
+use Rattle.std.specs.Prelude.{ℕ, zero, suc, ◌+◌, List, ◌++◌}
 use Rattle.partitions.specs.Map.{Map}
 use Rattle.model.specs.Answers.{code_of, value_of}
 use Rattle.model.specs.declared.Session.{Session}
@@ -15,56 +15,45 @@ use Rattle.transcript.specs.declared.Continuation.TheVariants.{Continues, Stops,
 use Rattle.transcript.specs.declared.RunOutcome.{RunOutcome}
 use Rattle.transcript.specs.Transcript.{refused_kind}
 
--- the machine after it, whether more follows, the place and the line (zeros where there is none)
+-- the machine after it, how it goes on with its line, and the place
 pub record Run : Type 0 where
   pub machine : Machine
   pub continuation : Continuation
   pub place : ℕ
-  pub line : List ℕ
 
 -- by what stands at the place: a record executed, the end, or a refusal's line
 unfoldable pub run_by : Map → Reading → List ℕ → ℕ → Machine → Run
 run_by map (Record command next) script place m =
     let r = result_for map command m in
-    record { machine = r.machine; continuation = Continues; place = next; line = line_of (kind_of command) (code_of r.answer) (value_of r.answer) }
-run_by map End script place m = record { machine = m; continuation = Ends; place = place; line = replicate 23 0 }
+    record { machine = r.machine; continuation = Continues (line_of (kind_of command) (code_of r.answer) (value_of r.answer)); place = next }
+run_by map End script place m = record { machine = m; continuation = Ends; place = place }
 run_by map (Refused refusal at) script place m =
-    record { machine = m; continuation = Stops; place = place; line = line_of (refused_kind script refusal at) (refusal_code refusal) at }
+    record { machine = m; continuation = Stops (line_of (refused_kind script refusal at) (refusal_code refusal) at); place = place }
 
 unfoldable pub run_of : Map → List ℕ → ℕ → Machine → Run
 run_of map script place m = run_by map (next_at script place) script place m
 
 -- what is lent after it, with what it gave back
 abbrev pub run_with : Lent → RunOutcome → Run
-run_with l t = record { machine = machine_of l t.session; continuation = t.continuation; place = t.place; line = t.line }
+run_with l t = record { machine = machine_of l t.session; continuation = t.continuation; place = t.place }
 
--- ---- what comes back where no record was found
-
--- the end, and a refusal
-abbrev pub ended_at : ℕ → Session → RunOutcome
-ended_at place session = record { session = session; continuation = Ends; place = place; line = replicate 23 0 }
-
-abbrev pub refused_at : Refusal → ℕ → List ℕ → ℕ → Session → RunOutcome
-refused_at refusal at script place session =
-    record { session = session; continuation = Stops; place = place; line = line_of (refused_kind script refusal at) (refusal_code refusal) at }
-
--- a record never comes here (its clause is never asked); it counts as the end
-abbrev pub stopped_of : Reading → List ℕ → ℕ → Session → RunOutcome
-stopped_of (Record command next) script place session = ended_at place session
-stopped_of End script place session = ended_at place session
-stopped_of (Refused refusal at) script place session = refused_at refusal at script place session
+-- how it goes on where no record was found; a record never comes here (its clause is never asked), and counts as the end
+abbrev pub stopped_of : Reading → List ℕ → Continuation
+stopped_of (Record command next) script = Ends
+stopped_of End script = Ends
+stopped_of (Refused refusal at) script = Stops (line_of (refused_kind script refusal at) (refusal_code refusal) at)
 
 -- ---- records one after the other, as the bench program runs them
 
 -- what is printed from a record on, after `count` lines: its line and the rest, its line and the end line, or the end line
-unfoldable pub after_record : Continuation → List ℕ → ℕ → List ℕ → List ℕ
-after_record Continues line count rest = line ++ rest
-after_record Stops line count rest = line ++ end_line (count + 1)
-after_record Ends line count rest = end_line count
+unfoldable pub after_record : Continuation → ℕ → List ℕ → List ℕ
+after_record (Continues line) count rest = line ++ rest
+after_record (Stops line) count rest = line ++ end_line (count + 1)
+after_record Ends count rest = end_line count
 
 -- at most n records
 unfoldable pub runs_from : Map → ℕ → List ℕ → ℕ → Machine → ℕ → List ℕ
 runs_from map zero script place m count = end_line count
 runs_from map (suc n) script place m count =
     let t = run_of map script place m in
-    after_record t.continuation t.line count (runs_from map n script t.place t.machine (count + 1))
+    after_record t.continuation count (runs_from map n script t.place t.machine (count + 1))

@@ -1,23 +1,23 @@
 // A rehearsal, record by record: the next record of a script is read and executed, and its line made. And the files of words.
 #![tactic(auto)]
 
-ghost use Rattle.std.specs.Prelude.{◌≡◌, List, ◌++◌, ℕ, ◌+◌, ◌*◌, length, drop};
+ghost use Rattle.std.specs.Prelude.{◌≡◌, List, ◌++◌, ℕ, length, drop};
 ghost use Rattle.partitions.specs.Maps.{map_of};
 ghost use Rattle.chip.specs.Chip.{lent_of, machine_of};
-ghost use Rattle.script.specs.Records.{byte_at};
 ghost use Rattle.transcript.specs.Files.{lent_words};
 ghost use Rattle.transcript.specs.Transcript.{refused_kind, map_for, lines_of};
-ghost use Rattle.transcript.specs.Runs.{ended_at, refused_at, stopped_of, run_of, run_with};
+ghost use Rattle.transcript.specs.Runs.{stopped_of, run_of, run_with};
 
-use model::Session;
+use chip::Chip;
+use model::{Outcome, Session};
 use partitions::{MapName, map2};
-use script::{Reading, Refusal};
+use script::{Reader, Reading, Refusal};
 
 // How a rehearsal goes on: with a line and more to come, with a last line, or with the script's end and no line.
-#[derive(Clone, Copy)]
+#[derive(Clone, Copy, PartialEq, Eq, Debug)]
 pub enum Continuation {
-    Continues,
-    Stops,
+    Continues([u8; 23]),
+    Stops([u8; 23]),
     Ends,
 }
 
@@ -27,116 +27,85 @@ pub struct RunOutcome {
     pub session: Session,
     pub continuation: Continuation,
     pub place: usize,
-    pub line: [u8; 23],
-}
-
-// A byte of the script, 0 past its end.
-fn byte_at(script: &[u8], at: usize) -> u8
-    ensures { result ≡ byte_at script.now at }
-{
-    if at < script.len() { script[at] } else { 0 }
 }
 
 // The kind that a refusal's line begins with: the byte as read, and 0 for a script that is too long.
+#[tactic(auto, unfolding(crate::specs::Transcript::refused_kind))]
 fn refused_kind(script: &[u8], refusal: Refusal, place: usize) -> u8
     ensures { result ≡ refused_kind script.now refusal place }
 {
     match refusal {
-        Refusal::UnknownKind => byte_at(script, place),
-        Refusal::CutShort => byte_at(script, place),
+        Refusal::UnknownKind | Refusal::CutShort => script.get(place).copied().unwrap_or(0),
         Refusal::TooLong => 0,
     }
 }
 
-// The script ends here.
-fn ended(place: usize, session: Session) -> RunOutcome
-    ensures { result ≡ ended_at place session }
-{
-    RunOutcome {
-        session,
-        continuation: Continuation::Ends,
-        place,
-        line: [0; 23],
-    }
-}
-
-// The line of a refusal at a place is the last.
-fn refused(script: &[u8], place: usize, refusal: Refusal, at: usize, session: Session) -> RunOutcome
-    ensures { result ≡ refused_at refusal at script.now place session }
-{
-    let line = script::line(refused_kind(script, refusal, at), refusal.code(), at as u64);
-    RunOutcome {
-        session,
-        continuation: Continuation::Stops,
-        place,
-        line,
-    }
-}
-
-// No record was found: place and session stay as they were.
-fn stopped(script: &[u8], place: usize, reading: Reading, session: Session) -> RunOutcome
-    ensures { result ≡ stopped_of reading script.now place session }
+// How a rehearsal ends where no record was found: a refusal's line is the last.
+fn stopped(script: &[u8], reading: Reading) -> Continuation
+    ensures { result ≡ stopped_of reading script.now }
 {
     match reading {
-        Reading::Record(_, _) => ended(place, session),
-        Reading::End => ended(place, session),
-        Reading::Refused(refusal, at) => refused(script, place, refusal, at, session),
+        Reading::Record(_, _) | Reading::End => Continuation::Ends,
+        Reading::Refused(refusal, at) => {
+            let kind = refused_kind(script, refusal, at);
+            Continuation::Stops(script::line(kind, refusal.code(), at as u64))
+        }
     }
 }
 
-// Reads the record at a place, executes it and makes its line; or says that none is left, or why the script is not read on.
+// Executes the record that a reader comes to and makes its line; or says that none is left, or why the script is not read on. Place and session stay as they
+// were where there is no record.
 pub fn run_record(
-    script: &[u8],
-    place: usize,
+    reader: Reader<'_>,
+    chip: Chip<'_>,
     cells: &mut [u16],
     copy: &mut [u16],
-    constants: &[u16],
-    map: MapName,
     session: Session,
 ) -> RunOutcome
-    ensures { run_with (lent_of cells.new copy.new constants.now) result
-        ≡ run_of (map_of map) script.now place (machine_of (lent_of cells.old copy.old constants.now) session) }
+    ensures { run_with (lent_of cells.new copy.new chip.entry.constants.now) result
+        ≡ run_of (map_of chip.entry.map) reader.entry.script.now reader.entry.place
+            (machine_of (lent_of cells.old copy.old chip.entry.constants.now) session) }
 {
-    let reading = script::read_at(script, place);
+    let reading = reader.next();
     let Reading::Record(command, next) = reading else {
-        return stopped(script, place, reading, session);
+        return RunOutcome {
+            session,
+            continuation: stopped(reader.script, reading),
+            place: reader.place,
+        };
     };
-    let outcome = controller::execute(cells, copy, constants, map, session, command);
-    let answer = outcome.answer;
-    let after = outcome.session;
-    let kind = script::kind_of(command);
-    let code = answer.code();
-    let value = answer.value();
-    let line = script::line(kind, code, value);
+    let Outcome { session, answer } = controller::execute(chip, cells, copy, session, command);
+    let kind = u8::from(script::kind_of(command));
+    let line = script::line(kind, model::code_of(answer), model::value_of(answer));
     RunOutcome {
-        session: after,
-        continuation: Continuation::Continues,
+        session,
+        continuation: Continuation::Continues(line),
         place: next,
-        line,
     }
 }
 
 // The map that an image is taken for, by its length in bytes.
+#[tactic(auto, using(crate::proofs::Maps::maps_named))]
 pub fn map_for(image: &[u8]) -> MapName
     ensures { result ≡ map_for image.now }
 {
     if image.len() == map2::LifeCycle::END {
-        return MapName::Map2;
+        MapName::Map2
+    } else {
+        MapName::Map1
     }
-    MapName::Map1
 }
 
 // How many lines a script gives, whatever the image and the constants are: what its end line says.
 pub fn line_count(script: &[u8]) -> u64
     ensures { (image constants : List ℕ) → result ≡ length (lines_of script.now image constants) }
 {
+    let mut reader = Reader { script, place: 0 };
     let mut count = 0;
-    let mut place = 0;
     loop {
-        let reading = script::read_at(script, place);
-        match reading {
+        match reader.next() {
             Reading::Record(_, next) => {
-                place = next;
+                reader.place = next;
                 count += 1;
             }
             Reading::End => return count,
@@ -145,27 +114,18 @@ pub fn line_count(script: &[u8]) -> u64
     }
 }
 
-// The word of two bytes, the lowest first.
-fn word(low: u8, high: u8) -> u16
-    ensures { result ≡ low + 256 * high }
-{
-    (low as u16) + 256 * (high as u16)
-}
-
 // Fills words from the start with those of a file, and says how many they are: none where the file is no array of words, or has too many.
+// Kept (plainer): the count is the answer, as `Read::read`'s is; the words that it tells of are the caller's `&words[..count]`.
 pub fn file_words(bytes: &[u8], words: &mut [u16]) -> usize
-    ensures { (result ≡ length (lent_words (length words.old) bytes.now))
-        × (words.new ≡ lent_words (length words.old) bytes.now ++ drop result words.old) }
+    ensures count { result ≡ length (lent_words (length words.old) bytes.now) }
+    ensures words { words.new ≡ lent_words (length words.old) bytes.now ++ drop result words.old }
 {
-    let n = bytes.len() / 2;
-    if bytes.len() % 2 != 0 {
+    let (pairs, rest) = bytes.as_chunks::<2>();
+    if !rest.is_empty() || words.len() < pairs.len() {
         return 0;
     }
-    if words.len() < n {
-        return 0;
+    for (i, pair) in pairs.iter().enumerate() {
+        words[i] = u16::from_le_bytes(*pair);
     }
-    for i in 0..n {
-        words[i] = word(bytes[2 * i], bytes[2 * i + 1]);
-    }
-    n
+    pairs.len()
 }

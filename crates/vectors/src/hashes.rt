@@ -1,7 +1,8 @@
 // Keccak-f[1600], SHAKE128, cSHAKE128 and the hash of a token. A line for each: what it is, and the lanes, the bytes or the number in hex.
 use std::{array, io};
 
-fn print_bytes(rt: &impl Print, bytes: &[u8]) -> io::Result<()> {
+fn show_bytes(rt: &impl Print, what: &str, bytes: &[u8]) -> io::Result<()> {
+    print!(rt; "{what}")?;
     for byte in bytes {
         print!(rt; "{byte:02x}")?;
     }
@@ -27,16 +28,14 @@ fn show_permutation(rt: &impl Print) -> io::Result<()> {
 // SHAKE128, as many bytes as the buffer has.
 fn show_shake(rt: &impl Print, what: &str, message: &[u8], out: &mut [u8]) -> io::Result<()> {
     cshake::shake128(message, out);
-    print!(rt; "{what}")?;
-    print_bytes(rt, out)
+    show_bytes(rt, what, out)
 }
 
 // 32 bytes of cSHAKE128, customized as in the samples of SP 800-185.
 fn show_sample(rt: &impl Print, what: &str, message: &[u8]) -> io::Result<()> {
     let mut out = [0; 32];
     cshake::cshake128(b"", b"Email Signature", message, &mut out);
-    print!(rt; "{what}")?;
-    print_bytes(rt, &out)
+    show_bytes(rt, what, &out)
 }
 
 fn show_token(rt: &impl Print) -> io::Result<()> {

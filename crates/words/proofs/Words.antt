@@ -1,11 +1,11 @@
 -- Laws of words and numbers, over the number of words. The idea: one word is one digit to the base 65536, so each law is an induction on the words.
-use mathlib.Core.Path.{◌≡◌, refl, ap, ◌∙◌}
+use mathlib.Core.Path.{◌≡◌, refl, sym, ap, ◌∙◌}
 use mathlib.Core.List.{List, [], ◌∷◌, reverse, reverse-cons}
 use Prim.Native.Nat.{ℕ, zero, suc, ◌+◌, ◌*◌, ◌/◌, ◌%◌, ◌^◌, ◌≤◌, ◌<◌}
 use native.Mathlib.Nat.{pow-suc, pow-le-pow_right, lt_of_lt_of_le, mod-eq_of_lt}
 use native.Mathlib.Omega.{arith}
 use lib.Bits.{bit_or}
-use lib.Pow.{mod-pow-add}
+use lib.Pow.{mod-pow-add, shr-shr}
 use lib.Dec.{ltb}
 use lib.ListN.{length, get_or, take, length-take, get_or-eq_default}
 use lib.Seq.{get_or-take}
@@ -15,6 +15,15 @@ use Rattle.std.proofs.lemmas.List.Sums.{fold-append}
 use Rattle.std.proofs.lemmas.Nat.{or_shifted}
 use Rattle.basics.proofs.Choice.{by_cases}
 use Rattle.words.specs.Words.{number_of, words_of}
+
+-- a word of a number by its place
+pub word-of : (n x i : ℕ) → i < n → get_or (words_of n x) i 0 ≡ x / 2 ^ (16 * i) % 65536
+unfolding words_of
+word-of zero x i h = absurd (omega arith)
+word-of (suc n) x zero h = omega arith
+word-of (suc n) x (suc i) h =
+    let e : 16 * suc i ≡ 16 + 16 * i = omega arith in
+    word-of n (x / 65536) i (omega arith) ∙ ap (λ (y : ℕ). y % 65536) (shr-shr x 16 (16 * i)) ∙ ap (λ (k : ℕ). x / 2 ^ k % 65536) (sym e)
 
 -- a list of words of 16 bits
 pub record Words (ws : List ℕ) : Type 0 where

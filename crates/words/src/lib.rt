@@ -5,6 +5,8 @@ ghost use Rattle.std.specs.Prelude.{◌≡◌, ◌<◌, length, get_or, take, po
 ghost use Rattle.words.specs.Words.{number_of, part_at, words_of};
 ghost use Rattle.words.specs.Programming.{refuses, program_answer, program_cells};
 
+use std::array;
+
 // A rule of refusal: a programmed bit must stay, or every word must be blank.
 #[derive(Clone, Copy)]
 pub enum Rule {
@@ -23,11 +25,7 @@ pub fn word_at(words: &[u16], i: usize) -> u16
 pub fn split(x: u64) -> [u16; 4]
     ensures { result ≡ words_of 4 x }
 {
-    let a = (x % 65536) as u16;
-    let b = (x / 65536 % 65536) as u16;
-    let c = (x / 65536 / 65536 % 65536) as u16;
-    let d = (x / 65536 / 65536 / 65536 % 65536) as u16;
-    [a, b, c, d]
+    array::from_fn(|i| (x >> (16 * i) & 0xffff) as u16)
 }
 
 // The number that the lowest four words stand for, or all words where they are fewer, from the highest word down.

@@ -1,5 +1,5 @@
 -- What is lent holds the words of the frame.
-use Rattle.frames.proofs.Steps.{step-read}
+use Rattle.frames.proofs.Lent.{step-read}
 use Rattle.frames.proofs.step.Goals as goal
 
 pub returns : goal.returns

@@ -6,4 +6,4 @@ use Rattle.life_cycle.proofs.counter_words.Goals as goal
 
 pub returns : goal.returns
 unfolding counter_words
-returns c = is-listed _ 24 _ c.from_fn.ensures.items.long (λ k h. let q = c.from_fn.ensures.items.at k 0 h in search rules)
+returns c = is-listed _ 24 _ c.from_fn.ensures.items.long (search rules)

@@ -6,4 +6,4 @@ use Rattle.life_cycle.proofs.state_words.Goals as goal
 
 pub returns : goal.returns
 unfolding state_words
-returns c = is-listed _ 20 _ c.from_fn.ensures.items.long (λ k h. let q = c.from_fn.ensures.items.at k 0 h in search rules)
+returns c = is-listed _ 20 _ c.from_fn.ensures.items.long (search rules)

@@ -1,54 +1,59 @@
 -- The invariant: the first i words are the file's, the others as they were.
-use Prim.Native.Nat.{ℕ, ◌≤◌, ◌<◌, ◌/◌}
+use Prim.Native.Nat.{ℕ, ◌<◌, ◌%◌, ◌/◌}
 use mathlib.Core.Path.{◌≡◌, refl, sym, ap, ◌∙◌}
-use mathlib.Core.List.{◌++◌}
+use mathlib.Core.Bool.{true, false}
+use mathlib.Core.List.{[], ◌++◌}
 use native.Mathlib.Omega.{arith}
-use lib.ListN.{length, drop}
-use borrow.Author.Tests.{eq-eqb, ne_eqb}
-use Rattle.basics.proofs.Filling.{filled-length, filled_more, filled-whole}
-use Rattle.transcript.specs.Files.{pairs}
-use Rattle.transcript.proofs.Files.{pairs-length, pair-at, lent-odd, lent-long, lent_fits, none_lent}
+use lib.Dec.{eqb}
+use lib.ListN.{length, get_or, drop}
+use Rattle.std.specs.Int.{w16, from_le_bytes}
+use Rattle.std.proofs.Common.{inl, inr}
+use Rattle.basics.proofs.Filling.{filled_more, filled-whole}
+use Rattle.transcript.specs.Files.{pairs, lent_words}
+use Rattle.transcript.proofs.Files.{pairs-length, pair-chunk, lent-odd, lent-long, lent_fits, none_lent}
 use Rattle.transcript.proofs.file_words.Goals as goal
-use Rattle.transcript.proofs.file_words.Goals.{At-loop-i}
+use Rattle.transcript.proofs.file_words.Goals.{Joined-then-not-is_empty}
 
-within : (t : At-loop-i) → t.loop-i.i ≤ length (pairs t.args.bytes.now)
-within t = omega (arith, pairs-length t.args.bytes.now)
+none : (c : Joined-then-not-is_empty) → lent_words (length c.args.words.now) c.args.bytes.now ≡ []
+none c =
+    let b = c.args.bytes.now in
+    let w = c.args.words.now in
+    let rest = ap (λ n. eqb n 0) (sym c.as_chunks.ensures.back_len) ∙ sym c.is_empty.ensures in
+    elim c.then-not-is_empty.either [
+      | inl e ↦ lent-odd (length w) b (rest ∙ e)
+      | inr h ↦ lent-long (length w) b (rest ∙ h.0) (rw c.as_chunks.ensures.front_len at h.1)
+    ]
 
-fits : (t : At-loop-i) → length (pairs t.args.bytes.now) ≤ length t.args.words.now
-fits t = omega (arith, pairs-length t.args.bytes.now)
+pub returns-then-not-is_empty-clause-count : goal.returns-then-not-is_empty-clause-count
+returns-then-not-is_empty-clause-count c = (none_lent _ _ c.args.words.now (none c)).0
 
-same : (t : At-loop-i) → length t.loop-i.words ≡ length t.args.words.now
-same t = ap length t.loop-i.invariant.1 ∙ filled-length t.args.words.now (pairs t.args.bytes.now) t.loop-i.i (within t) (fits t)
-
-pub returns-then-bytes-ne0 : goal.returns-then-bytes-ne0
-returns-then-bytes-ne0 c =
-    none_lent _ _ _ (lent-odd (length c.args.words.now) c.args.bytes.now (ne_eqb _ _ c.if-bytes-ne0.true))
-
-pub returns-then-words-n : goal.returns-then-words-n
-returns-then-words-n c =
-    none_lent _ _ _ (lent-long (length c.args.words.now) c.args.bytes.now (eq-eqb _ _ c.if-bytes-ne0.false) c.if-words-n.true)
+pub returns-then-not-is_empty-clause-words : goal.returns-then-not-is_empty-clause-words
+returns-then-not-is_empty-clause-words c = (none_lent _ _ c.args.words.now (none c)).1
 
 pub loop-i-init : goal.loop-i-init
 loop-i-init c = (omega arith, refl)
 
-pub bounds-words-i : goal.bounds-words-i
-bounds-words-i c = rw (same (goal.at.bounds-words-i c).At-loop-i) (omega arith)
-
 pub loop-i-preserved : goal.loop-i-preserved
 loop-i-preserved c =
     let b = c.args.bytes.now in
-    let l : c.loop-i.i < length (pairs b) = omega (arith, pairs-length b) in
-    let v = c.word.ensures ∙ sym (pair-at b c.loop-i.i l) in (
-      omega arith,
-      rw (c.loop-i.invariant.1, v) (filled_more c.args.words.now (pairs b) c.loop-i.i
-          (omega (arith, fits (goal.at.loop-i-preserved c).At-loop-i)) l),
-    )
+    let i = c.loop-i.i in
+    let n = c.as_chunks.ensures.front_len in
+    let l : i < length (pairs b) = omega (arith, pairs-length b) in
+    let v = c.from_le_bytes.ensures
+        ∙ ap (λ ps. from_le_bytes w16 (get_or ps i [])) c.as_chunks.ensures.front
+        ∙ pair-chunk (length b / 2) b i [] refl (omega (arith, pairs-length b)) in
+    (omega arith, rw (c.loop-i.invariant.1, v) (filled_more c.args.words.now (pairs b) i (omega (arith, pairs-length b)) l))
 
 pub returns : goal.returns
 returns c =
     let b = c.args.bytes.now in
     let w = c.args.words.now in
-    let e = lent_fits (length w) b (eq-eqb _ _ c.if-bytes-ne0.false) c.if-words-n.false in
+    let n = c.as_chunks.ensures.front_len in
+    let even : eqb (length b % 2) 0 ≡ true = ap (λ n. eqb n 0) (sym c.as_chunks.ensures.back_len) ∙ sym c.is_empty.ensures ∙ c.if-not-is_empty.false in
+    let e = lent_fits (length w) b even (omega arith) in
     let q : c.loop-i.i ≡ length b / 2 = omega arith in
     let whole = filled-whole w (pairs b) c.loop-i.i (omega (arith, pairs-length b)) in
-    rw e (sym (pairs-length b), c.loop-i.invariant.1 ∙ whole ∙ ap (λ (n : ℕ). pairs b ++ drop n w) q)
+    record {
+      count = rw e (n ∙ sym (pairs-length b));
+      words = rw (e, n) (c.loop-i.invariant.1 ∙ whole ∙ ap (λ k. pairs b ++ drop k w) q);
+    }

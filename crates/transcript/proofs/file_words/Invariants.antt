@@ -1,13 +1,10 @@
 -- The invariant: the first i words are the file's, the others as they were.
-use Prim.Native.Nat.{◌≤◌, ◌-◌}
+use Prim.Native.Nat.{◌≤◌}
 use mathlib.Core.Path.{◌≡◌}
 use mathlib.Core.List.{◌++◌}
-use lib.ListN.{take, drop}
+use lib.ListN.{length, take, drop}
 use Rattle.transcript.specs.Files.{pairs}
 use Rattle.transcript.proofs.file_words.Given as goal
 
 abbrev pub invariant-loop-i : goal.invariant-loop-i
-invariant-loop-i l = (l.i ≤ l.n) × (l.words ≡ take l.i (pairs l.bytes) ++ drop l.i l.initial.words)
-
-abbrev pub decreases-loop-i : goal.decreases-loop-i
-decreases-loop-i l = l.n - l.i
+invariant-loop-i l = (l.i ≤ length l.pairs) × (l.words ≡ take l.i (pairs l.bytes) ++ drop l.i l.initial.words)

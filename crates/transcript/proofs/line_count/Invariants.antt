@@ -6,7 +6,9 @@ use Rattle.transcript.proofs.Counting.{lines_left}
 use Rattle.transcript.proofs.line_count.Given as goal
 
 abbrev pub invariant-loop-next : goal.invariant-loop-next
-invariant-loop-next l = (l.place ≤ length l.script) × (l.count ≤ l.place) × (l.count + lines_left l.script l.place ≡ lines_left l.script 0)
+invariant-loop-next l =
+    (l.reader.script.now ≡ l.script) × (l.reader.place ≤ length l.script) × (l.count ≤ l.reader.place)
+    × (l.count + lines_left l.script l.reader.place ≡ lines_left l.script 0)
 
 abbrev pub decreases-loop-next : goal.decreases-loop-next
-decreases-loop-next l = length l.script - l.place
+decreases-loop-next l = length l.script - l.reader.place

@@ -10,28 +10,24 @@ pub returns-in_default : goal.returns-in_default
 unfolding run_of
 returns-in_default c =
     let o = c.args in
-    let n = c.read_at-reading.result in
-    rw (c.stopped.ensures, ← c.read_at-reading.ensures)
-    (run-stopped (map_of o.map) n o.script.now o.place (lent_of o.cells.now o.copy.now o.constants.now) o.session
+    rw (c.stopped.ensures, ← c.next-reading.ensures)
+    (run-stopped (map_of o.chip.map) c.next-reading.result o.reader.script.now o.reader.place (lent_of o.cells.now o.copy.now o.chip.constants.now) o.session
     c.in_default.not-Record)
 
 pub returns : goal.returns
 returns c =
     run-continues
-    (map_of c.args.map)
-    c.args.script.now
-    c.args.place
-    (machine_of (lent_of c.args.cells.now c.args.copy.now c.args.constants.now) c.args.session)
+    (map_of c.args.chip.map)
+    c.args.reader.script.now
+    c.args.reader.place
+    (machine_of (lent_of c.args.cells.now c.args.copy.now c.args.chip.constants.now) c.args.session)
     c.in-Record.command
     c.in-Record.next
-    (result_of (lent_of c.execute-outcome.new.cells c.execute-outcome.new.copy c.args.constants.now) c.execute-outcome.result)
-    c.kind_of-kind.result
-    c.code-code.result
-    c.value-value.result
-    c.line-line.result
-    (sym c.read_at-reading.ensures ∙ c.in-Record.is)
-    c.execute-outcome.ensures
-    c.kind_of-kind.ensures
-    c.code-code.ensures
-    c.value-value.ensures
+    (result_of (lent_of c.execute-answer.new.cells c.execute-answer.new.copy c.args.chip.constants.now) c.execute-answer.result)
+    _ _ _ _
+    (sym c.next-reading.ensures ∙ c.in-Record.is)
+    c.execute-answer.ensures
+    (c.from-kind.ensures ∙ c.kind_of.ensures)
+    c.code_of.ensures
+    c.value_of.ensures
     c.line-line.ensures

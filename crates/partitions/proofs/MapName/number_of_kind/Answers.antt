@@ -1,11 +1,7 @@
--- Each arm asks its map.
-use Rattle.partitions.specs.Maps.{map_of}
+-- The place that is found is the definition's, and so is the count where there is none.
+use Rattle.std.proofs.Common.{◌∙◌}
+use Rattle.partitions.proofs.FirstOfKind.{first_of_kind}
 use Rattle.partitions.proofs.MapName.number_of_kind.Goals as goal
 
-pub returns-in-Map1 : goal.returns-in-Map1
-unfolding map_of
-returns-in-Map1 c = rw c.in-Map1.is c.number_of_kind.ensures
-
-pub returns-in-Map2 : goal.returns-in-Map2
-unfolding map_of
-returns-in-Map2 c = rw c.in-Map2.is c.number_of_kind-in-Map2.ensures
+pub returns : goal.returns
+returns c = c.unwrap_or.ensures ∙ rw (c.first_of.ensures, c.partitions.ensures, c.count.ensures) (first_of_kind _ c.args.kind)
