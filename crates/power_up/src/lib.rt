@@ -30,6 +30,8 @@ fn digest_holds(chip: Chip<'_>, cells: &[u16], partition: Partition) -> bool
 }
 
 // The first partition whose digest check fails.
+// Kept (plainer): that the cells have as many words as the map is asked by five private functions; a struct of chip and cells with that fact as its invariant
+// would name it once and say no less at each of them.
 fn first_failing(chip: Chip<'_>, cells: &[u16]) -> Option<usize>
     requires { length cells.now ≡ limit (map_of chip.map) / 2 }
     ensures { result ≡ first_failing primitives (map_of chip.entry.map) chip.entry.constants.now cells.now }
@@ -79,6 +81,7 @@ fn latch(chip: Chip<'_>, cells: &[u16], copy: &mut [u16])
     requires { (length cells.now ≡ limit (map_of chip.map) / 2) × (length copy.old ≡ limit (map_of chip.map) / 2) }
     ensures { copy.new ≡ listed (copy_word primitives (map_of chip.entry.map) chip.entry.constants.now cells.now) 0 (limit (map_of chip.entry.map) / 2) }
 {
+    // Kept (proof): once the borrows of `chunks_exact_mut(4)` are over, a proof knows the length of the copy and not its words.
     for number in 0..copy.len() / 4 {
         let at = 4 * number;
         copy[at..at + 4].copy_from_slice(&sensed_block(chip, cells, at));
