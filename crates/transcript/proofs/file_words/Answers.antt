@@ -30,9 +30,6 @@ returns-then-not-is_empty-clause-count c = (none_lent _ _ c.args.words.now (none
 pub returns-then-not-is_empty-clause-words : goal.returns-then-not-is_empty-clause-words
 returns-then-not-is_empty-clause-words c = (none_lent _ _ c.args.words.now (none c)).1
 
-pub loop-i-init : goal.loop-i-init
-loop-i-init c = (omega arith, refl)
-
 pub loop-i-preserved : goal.loop-i-preserved
 loop-i-preserved c =
     let b = c.args.bytes.now in

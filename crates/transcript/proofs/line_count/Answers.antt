@@ -22,9 +22,6 @@ found c = here c.loop-next.reader.place c.loop-next.invariant.0 c.next.ensures c
 read : (c : In-Record) → IsRead c.args.script.now c.loop-next.reader.place c.in-Record.field-0 c.in-Record.next
 read c = is_read _ _ (found c)
 
-pub loop-next-init : goal.loop-next-init
-loop-next-init c = (refl, omega arith, omega arith, omega arith)
-
 pub loop-next-smaller : goal.loop-next-smaller
 loop-next-smaller c = omega (arith, (read c).above, (read c).within)
 
