@@ -11,6 +11,7 @@ use std::array;
 use words::word_at;
 
 // The states by their numbers. TEST_UNLOCKEDn is 2n + 1, TEST_LOCKEDn is 2n + 2.
+// Kept (fixed): no enum, since `table_entry`, `state_words` and the definitions under them answer for every byte: a transition's target may be any.
 pub const RAW: u8 = 0;
 
 pub const TEST_UNLOCKED0: u8 = 1;
@@ -64,13 +65,8 @@ fn counter_word(constants: &[u16], count: u8, i: usize) -> u16
     requires { i < 24 }
     ensures { result ≡ counter_word constants.now count i }
 {
-    coded_word(
-        constants,
-        count,
-        i < usize::from(count),
-        FIRST_D + i,
-        FIRST_C + i,
-    )
+    let below = i < usize::from(count);
+    coded_word(constants, count, below, FIRST_D + i, FIRST_C + i)
 }
 
 // The counter words of a stroke count.
@@ -142,7 +138,7 @@ pub fn decode(constants: &[u16], counter: &[u16], state: &[u16]) -> Option<LifeC
 fn is_test(state: u8) -> bool
     ensures { result ≡ is_test state }
 {
-    (TEST_UNLOCKED0 <= state) & (state <= TEST_UNLOCKED7)
+    matches!(state, TEST_UNLOCKED0..=TEST_UNLOCKED7)
 }
 
 #[tactic(auto, unfolding(crate::specs::Transitions::is_unlocked))]
