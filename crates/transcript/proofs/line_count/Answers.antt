@@ -1,6 +1,6 @@
 -- The invariant: the lines counted and those left from the place on are those of the whole script.
 use Prim.Native.Nat.{ℕ}
-use mathlib.Core.Path.{◌≡◌, refl, sym, ap, ◌∙◌}
+use mathlib.Core.Path.{◌≡◌, sym, ap, ◌∙◌}
 use mathlib.Core.List.{List}
 use native.Mathlib.Omega.{arith}
 use Rattle.script.specs.declared.Reading.{Reading}
