@@ -18,6 +18,7 @@ const S_BOX: u64 = 0x2174_8fe3_da09_b65c;
 const S_BOX_INVERSE: u64 = 0xa970_364b_d21c_8fe5;
 
 // Group i of four bits of x.
+#[tactic(auto, using(crate::proofs::Groups::group_is))]
 fn group(x: u64, i: u64) -> u64
     requires { i < 16 }
     ensures { result ≡ digit 16 x i }
