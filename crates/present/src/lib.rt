@@ -27,6 +27,7 @@ fn group(x: u64, i: u64) -> u64
 }
 
 // The S-box at v.
+#[tactic(auto, using(crate::proofs::Boxes::held), unfolding(crate::specs::Present::s_box, basics::specs::Range::all_below))]
 fn s_box(v: u64) -> u64
     requires { v < 16 }
     ensures { (result ≡ s_box v) × (result < 16) }
@@ -35,6 +36,7 @@ fn s_box(v: u64) -> u64
 }
 
 // Each group of x through the box that a word holds.
+#[tactic(auto, unfolding(crate::specs::Present::substitute, basics::specs::Range::sum))]
 fn substituted(word: u64, x: u64) -> u64
     ensures { result ≡ substitute (digit 16 word) x }
 {
@@ -97,6 +99,7 @@ fn top_substituted(key: u128) -> u128
 }
 
 // The key step of a round.
+#[tactic(auto, using(crate::proofs::KeyRegister::rotated), unfolding(crate::specs::Present::key_step))]
 fn key_step(round: usize, key: u128) -> u128
     ensures { result ≡ key_step round key }
 {
@@ -104,6 +107,7 @@ fn key_step(round: usize, key: u128) -> u128
 }
 
 // The 32 round keys.
+#[tactic(auto, unfolding(crate::specs::Present::key_after))]
 fn round_keys(key: u128) -> [u64; 32]
     ensures { result ≡ round_keys key }
 {
@@ -117,6 +121,7 @@ fn round_keys(key: u128) -> [u64; 32]
 }
 
 // A block encrypted under a key. The key register goes along with the state.
+#[tactic(auto, unfolding(crate::specs::Present::key_after, crate::specs::Present::state_after, crate::specs::Present::encrypt_block))]
 pub fn encrypt(key: u128, block: u64) -> u64
     ensures { result ≡ encrypt_block key block }
 {
