@@ -38,6 +38,8 @@ pub or-test : (low up : ℕ) → low < 65536 → eqb (bit_or low up) up ≡ not 
 or-test low up l =
     by_cases (loses_bit low up) (λ t. rw t (ne_eqb _ up (λ e. true-not-false t (or-keeps low up e)))) (λ t. rw t (eq-eqb _ up (keeps-or low up l t)))
 
+pub ruleset pair_tests = (or-test)
+
 -- of a word's 16 bits the upper constant has at least one
 pub upper-nonzero : {low up : ℕ} → Pair low up → low < 65536 → up ≡ 0 → ⊥
 upper-nonzero {low} {up} p l z = p.nonzero (sym (or_zero_r low) ∙ keeps-or low 0 l (rw z at p.covered))

@@ -34,6 +34,7 @@ pub const FIRST_B: usize = 104;
 pub const RAW_UNLOCK_HASH: usize = 124;
 
 // A lower constant is nonzero, differs from its upper one and has no bit that the upper one lacks.
+#[tactic(auto, using(crate::proofs::Constants::pair_tests), unfolding(crate::specs::Constants::pair_valid))]
 fn pair_valid(low: u16, up: u16) -> bool
     ensures { result ≡ pair_valid low up }
 {
@@ -53,6 +54,7 @@ fn pairs_valid(constants: &[u16], low: usize, up: usize, n: usize) -> bool
 }
 
 // All pairs of the life cycle's constants are valid.
+#[tactic(auto, unfolding(crate::specs::Constants::valid_constants))]
 pub fn valid_constants(constants: &[u16]) -> bool
     ensures { result ≡ valid_constants constants.now }
 {

@@ -1,19 +1,22 @@
 -- Laws of the string encodings. The idea: two bounds tell how many bytes a number takes, and a byte more at its low end adds one to them.
-use mathlib.Core.Path.{◌≡◌, sym, ap, ◌∙◌}
+use mathlib.Core.Path.{◌≡◌, refl, sym, ap, ap₂, ◌∙◌}
 use mathlib.Core.Bool.{Bool, true, false}
 use mathlib.Core.List.{List, [], ◌∷◌, ◌++◌}
 use Prim.Native.Nat.{ℕ, zero, suc, ◌+◌, ◌*◌, ◌-◌, ◌/◌, ◌%◌, ◌^◌, ◌≤◌, ◌<◌}
-use native.Mathlib.Nat.{add-zero, add-suc, suc-add, mul-suc, pow-succ', div-lt_iff_lt-mul, div-eq_of_lt, div-div-eq-div-mul}
+use native.Mathlib.Nat.{zero-add, add-zero, add-suc, suc-add, lt_of_lt_of_le, le_trans, div-one, mul-suc, pow-succ', div-div-eq-div-mul}
 use native.Mathlib.Omega.{arith}
+use lib.Count.{count_leading_zeros}
 use lib.Dec.{eqb, ltb, lit<}
-use lib.ListN.{length, get_or, length-append, get_or-append}
-use lib.Pow.{pow_pos, pow-add}
-use lib.Seq.{get_or_at}
+use lib.ListN.{length, get_or, take, drop, length-append, get_or-append}
+use lib.Pow.{pow_mono, pow-add}
+use lib.Seq.{get_or_at, take_all}
+use Rattle.std.specs.Int.{w64, byte_at, bytes_high_first, to_be_bytes}
+use Rattle.std.proofs.lemmas.Nat.{leading_top}
 use borrow.Author.Tests.{eqb-true, eqb-false, ltb-true, ltb-false, lt-ltb}
 use Rattle.basics.specs.Range.{listed}
 use Rattle.basics.specs.Digits.{digit}
 use Rattle.basics.proofs.Choice.{by_cases, if-both}
-use Rattle.basics.proofs.Range.{length-listed, listed_at, is-listed}
+use Rattle.basics.proofs.Range.{length-listed, listed_at, listed-shift, is-listed}
 use Rattle.basics.proofs.Digits.{digit_lt}
 use Rattle.sponge.proofs.Bytes.{Bytes, below-append, bytes-listed}
 use Rattle.cshake.specs.Encoding.{smallest, byte_count, left_encode, encode_string, bytepad}
@@ -72,12 +75,15 @@ count-is x n h l u =
     (λ t. by_cases (ltb (byte_count x) n) (λ s. absurd (omega (arith, fits x, u (byte_count x) (ltb-true _ _ s) (positive x))))
     (λ s. omega (arith, ltb-false)))
 
--- what a shift by n bytes shows
-pub enough : (x n : ℕ) → x / 2 ^ (8 * n) ≡ 0 → x < 2 ^ (8 * n)
-enough x n e = omega (arith, (div-lt_iff_lt-mul {k = 2 ^ (8 * n)} {x = x} {y = 1} (pow_pos (8 * n))).0 (omega arith))
-
-pub not-enough : (x n : ℕ) → (x / 2 ^ (8 * n) ≡ 0 → ⊥) → 2 ^ (8 * n) ≤ x
-not-enough x n h = by_cases (ltb x (2 ^ (8 * n))) (λ t. absurd (h (div-eq_of_lt (ltb-true _ _ t)))) (λ t. ltb-false _ _ t)
+-- what the zeros in front of a number of 64 bits show
+pub count-zeros : (x : ℕ) → 0 < x → x < 2 ^ 64 → 8 - count_leading_zeros 64 x / 8 ≡ byte_count x
+count-zeros x h l =
+    let t = leading_top 64 x h l in
+    let j : ℕ = t.0 in
+    let n : 8 - count_leading_zeros 64 x / 8 ≡ j / 8 + 1 = omega (arith, t.1) in
+    n
+    ∙ count-is x (j / 8 + 1) (omega arith) (lt_of_lt_of_le t.3 (pow_mono (omega arith)))
+    (λ m p q. le_trans (pow_mono (omega arith)) t.2)
 
 pub count_small : (x : ℕ) → x < 256 → 1 ≡ byte_count x
 count_small x h = count-is x 1 (omega arith) h (λ m p l. absurd (omega arith))
@@ -97,6 +103,33 @@ count-more high low h l =
 -- the lowest n bytes of x, the highest of them first
 abbrev pub bytes_down : ℕ → ℕ → List ℕ
 bytes_down x n = listed (λ i. digit 256 x (n - suc i)) 0 n
+
+-- the library's bytes of a number
+high-first : (n x : ℕ) → bytes_high_first n x ≡ bytes_down x n
+unfolding listed
+high-first zero x = refl
+high-first (suc n) x =
+    let first : n ≡ suc n - suc 0 = omega arith in
+    ap₂ (λ (b : ℕ) (bs : List ℕ). b ∷ bs) (top n ∙ ap (digit 256 x) first) (high-first n x ∙ sym (listed-shift _ _ 0 1 n (λ j. ap (digit 256 x) (less j))))
+  where
+    top : (k : ℕ) → byte_at k x ≡ digit 256 x k
+    top zero = ap (λ (y : ℕ). y % 256) (sym (div-one x))
+    top (suc k) = refl
+
+    less : (j : ℕ) → suc n - suc (1 + j) ≡ n - suc j
+    less j = omega arith
+
+high-dropped : (k n x : ℕ) → drop k (bytes_high_first (k + n) x) ≡ bytes_high_first n x
+high-dropped zero n x = rw zero-add refl
+high-dropped (suc k) n x = rw suc-add (high-dropped k n x)
+
+pub bytes-behind : (x zeros : ℕ) → zeros ≤ 8 → take (8 - zeros) (drop zeros (to_be_bytes w64 x)) ≡ bytes_down x (8 - zeros)
+bytes-behind x zeros h =
+    let n : ℕ = 8 - zeros in
+    let e : 8 ≡ zeros + n = omega arith in
+    ap (λ (k : ℕ). take n (drop zeros (bytes_high_first k x))) e
+    ∙ ap (take n) (high-dropped zeros n x ∙ high-first n x)
+    ∙ take_all n (bytes_down x n) (omega (arith, length-listed (λ i. digit 256 x (n - suc i)) 0 n))
 
 digit-more : (high low k : ℕ) → low < 256 → digit 256 (256 * high + low) (suc k) ≡ digit 256 high k
 digit-more high low k l =

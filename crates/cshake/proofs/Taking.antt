@@ -1,40 +1,23 @@
 -- What the sponge takes in pieces it takes whole. The idea: the pieces of an encoding, put together, are the encoding.
-use mathlib.Core.Path.{◌≡◌, refl, sym, ap, ap₂, ◌∙◌}
+use mathlib.Core.Path.{◌≡◌, sym, ap, ◌∙◌}
 use mathlib.Core.List.{List, [], ◌∷◌, ◌++◌, append_assoc}
-use Prim.Native.Nat.{ℕ, zero, suc, ◌+◌, ◌*◌, ◌-◌, ◌/◌, ◌%◌, ◌^◌, ◌≤◌, ◌<◌}
+use Prim.Native.Nat.{ℕ, ◌+◌, ◌*◌, ◌-◌, ◌/◌, ◌%◌, ◌^◌, ◌≤◌, ◌<◌}
 use native.Mathlib.Numerals.{add-one}
 use native.Mathlib.Omega.{arith}
-use lib.ListN.{length}
+use lib.Count.{count_leading_zeros}
+use lib.Dec.{eqb}
+use lib.ListN.{length, take, drop}
+use borrow.Author.Tests.{eqb-true, eqb-false}
+use Rattle.std.specs.Int.{w64, to_be_bytes}
+use Rattle.std.specs.Int.Count.{leading_of_zero}
+use Rattle.std.proofs.lemmas.Nat.{leading_le}
+use Rattle.basics.proofs.Choice.{by_cases}
 use Rattle.basics.specs.Range.{listed}
-use Rattle.basics.specs.Digits.{digit}
 use Rattle.sponge.specs.declared.Sponge.{Sponge}
 use Rattle.sponge.specs.Streaming.{fresh, taken, taken_all, filled}
-use Rattle.sponge.proofs.Shifting.{power_256}
 use Rattle.sponge.proofs.Streams.{taken_all-append, filled_is}
 use Rattle.cshake.specs.Encoding.{byte_count, left_encode, encode_string, bytepad}
-use Rattle.cshake.proofs.Encoding.{bytes_down, encode-small, encode-more}
-
--- the lowest i of n bytes are left to take
-abbrev pub bytes_left : ℕ → ℕ → ℕ → List ℕ
-bytes_left x n i = listed (λ j. digit 256 x (n - suc j)) (n - i) i
-
-pub bytes-all : (x n : ℕ) → bytes_left x n n ≡ bytes_down x n
-bytes-all x n = ap (λ (i : ℕ). listed (λ j. digit 256 x (n - suc j)) i n) (omega arith)
-
-pub bytes-none : (s : Sponge) (x n : ℕ) → taken_all s (bytes_left x n 0) ≡ s
-unfolding taken_all listed
-bytes-none s x n = refl
-
-pub bytes_next : (s : Sponge) (x n i : ℕ) → 0 < i → i ≤ n
-    → taken_all s (bytes_left x n i) ≡ taken_all (taken s (x / 2 ^ (8 * (i - 1)) % 256)) (bytes_left x n (i - 1))
-unfolding taken_all listed
-bytes_next s x n zero h l = absurd (omega arith)
-bytes_next s x n (suc k) h l =
-    let here : n - suc (n - suc k) ≡ k = omega arith in
-    let rest : suc (n - suc k) ≡ n - k = omega arith in
-    let less : suc k - 1 ≡ k = omega arith in
-    let byte = ap (digit 256 x) here ∙ ap (λ (p : ℕ). x / p % 256) (sym (power_256 k)) in
-    rw less (ap₂ (λ (b i : ℕ). taken_all (taken s b) (listed (λ j. digit 256 x (n - suc j)) i k)) byte rest)
+use Rattle.cshake.proofs.Encoding.{bytes_down, count-zeros, bytes-behind, encode-small, encode-more}
 
 -- ---- pieces that are taken one after another
 
@@ -57,16 +40,49 @@ all-taken xs e = then-all fresh [] xs (nothing e)
 
 -- left_encode of a byte, and of more
 module _ (s : Sponge) (high low : ℕ) (fits : low < 256) where
-  pub number_small : high ≡ 0 → {t r : Sponge} → t ≡ taken s 1 → r ≡ taken t low → r ≡ taken_all s (left_encode (256 * high + low))
+  number_small : high ≡ 0 → {t r : Sponge} → t ≡ taken s 1 → r ≡ taken t low → r ≡ taken_all s (left_encode (256 * high + low))
   number_small h count byte =
       let e : low ≡ 256 * high + low = omega arith in
       then_one s _ low (one s 1 count) byte ∙ sym (ap (taken_all s) (encode-small low fits)) ∙ ap (λ (x : ℕ). taken_all s (left_encode x)) e
 
-  pub number_more : (n : ℕ) → 0 < high → n ≡ byte_count high
+  number_more : (n : ℕ) → 0 < high → n ≡ byte_count high
       → {t u r : Sponge} → t ≡ taken s (n + 1) → u ≡ taken_all t (bytes_down high n) → r ≡ taken u low → r ≡ taken_all s (left_encode (256 * high + low))
   number_more n h e count bytes byte =
       then_one s _ low (then-all s _ (bytes_down high n) (one s (n + 1) count) bytes) byte
       ∙ rw (add-one n, e) (sym (ap (taken_all s) (encode-more high low h fits)))
+
+  -- the bytes of the high part without the zeros in front, and the low byte
+  pub number-taken : high < 2 ^ 64 → {bytes : List ℕ} → bytes ≡ to_be_bytes w64 high → {t u r : Sponge}
+      → t ≡ taken s (9 - count_leading_zeros 64 high / 8)
+      → u ≡ taken_all t (take (8 - count_leading_zeros 64 high / 8) (drop (count_leading_zeros 64 high / 8) bytes))
+      → r ≡ taken u low → r ≡ taken_all s (left_encode (256 * high + low))
+  unfolding taken_all listed
+  number-taken h {bytes} e {t} {u} {r} count high-bytes byte =
+      by_cases (eqb high 0) (λ z. none (eqb-true _ _ z)) (λ z. number_more n (omega (arith, eqb-false high 0 z)) (some (omega (arith, eqb-false high 0 z))) first rest byte)
+    where
+      zeros : ℕ
+      zeros = count_leading_zeros 64 high / 8
+
+      n : ℕ
+      n = 8 - zeros
+
+      within : zeros ≤ 8
+      within = omega (arith, leading_le 64 high)
+
+      some : 0 < high → n ≡ byte_count high
+      some l = count-zeros high l h
+
+      first : t ≡ taken s (n + 1)
+      first = let more : 9 - zeros ≡ n + 1 = omega (arith, within) in count ∙ ap (taken s) more
+
+      rest : u ≡ taken_all t (bytes_down high n)
+      rest = high-bytes ∙ ap (λ (bs : List ℕ). taken_all t (take n (drop zeros bs))) e ∙ ap (taken_all t) (bytes-behind high zeros within)
+
+      none : high ≡ 0 → r ≡ taken_all s (left_encode (256 * high + low))
+      none z =
+          let all : count_leading_zeros 64 high ≡ 64 = ap (count_leading_zeros 64) z ∙ leading_of_zero 64 in
+          let no : n ≡ 0 = omega arith in
+          number_small z (first ∙ ap (λ (k : ℕ). taken s (k + 1)) no) (byte ∙ ap (λ (v : Sponge). taken v low) (rest ∙ ap (λ (k : ℕ). taken_all t (bytes_down high k)) no))
 
 -- encode_string
 pub string-taken : (s : Sponge) (text : List ℕ) {t r : Sponge} → t ≡ taken_all s (left_encode (256 * (length text / 32) + length text % 32 * 8))

@@ -58,20 +58,24 @@ absorb-none s ws e = rw e
 pub absorb-next : (s : ℕ) (ws piece rest : List ℕ) → ws ≡ piece ++ rest → length piece ≡ min 8 (length ws) → 0 < length ws
     → absorb_all s (blocks_of ws) ≡ absorb_all (absorb (number_of (part_at piece 0 8)) s) (blocks_of rest)
 absorb-next s ws piece rest e size some =
-    let total : length ws ≡ length piece + length rest = ap length e ∙ length-append piece rest in
-    by_cases (ltb (length ws) 8)
-    (λ t.
-    let short = ltb-true _ _ t in
-    let none : length rest ≡ 0 = omega arith in
-    let whole : ws ≡ piece = e ∙ ap (λ xs. piece ++ xs) (nil_from_length rest none) ∙ append-nil piece in
-    absorb-rest s ws some short ∙ ap (λ k. absorb k s) (key ∙ ap (λ xs. number_of (part_at xs 0 8)) whole) ∙ sym (absorb-none _ rest none))
-    (λ t.
-    let long = ltb-false _ _ t in
-    let eight : length piece ≡ 8 = omega arith in
-    let same : part_at ws 0 8 ≡ part_at piece 0 8 =
-    part_same ws piece 0 8 (λ j l u. ap (λ xs. get_or xs j 0) e ∙ get_or_append_left piece rest 0 j (omega arith)) in
-    let later : drop 8 ws ≡ rest = ap (drop 8) e ∙ ap (λ n. drop n (piece ++ rest)) (sym eight) ∙ drop-append_seam piece rest in
-    absorb-chunk s ws long ∙ ap₂ (λ k xs. absorb_all (absorb k s) (blocks_of xs)) (key ∙ ap number_of same) later)
+    by_cases (ltb (length ws) 8) (λ t. last (ltb-true _ _ t)) (λ t. whole (ltb-false _ _ t))
   where
+    parted : length ws ≡ length piece + length rest
+    parted = ap length e ∙ length-append piece rest
+
     key : chunk ws ≡ number_of (part_at ws 0 8)
     key = number-halves ws 0
+
+    last : length ws < 8 → absorb_all s (blocks_of ws) ≡ absorb_all (absorb (number_of (part_at piece 0 8)) s) (blocks_of rest)
+    last short =
+        let none : length rest ≡ 0 = omega (arith, parted) in
+        let all : ws ≡ piece = e ∙ ap (λ xs. piece ++ xs) (nil_from_length rest none) ∙ append-nil piece in
+        absorb-rest s ws some short ∙ ap (λ k. absorb k s) (key ∙ ap (λ xs. number_of (part_at xs 0 8)) all) ∙ sym (absorb-none _ rest none)
+
+    whole : 8 ≤ length ws → absorb_all s (blocks_of ws) ≡ absorb_all (absorb (number_of (part_at piece 0 8)) s) (blocks_of rest)
+    whole long =
+        let eight : length piece ≡ 8 = omega arith in
+        let same : part_at ws 0 8 ≡ part_at piece 0 8 =
+        part_same ws piece 0 8 (λ j l u. ap (λ xs. get_or xs j 0) e ∙ get_or_append_left piece rest 0 j (omega arith)) in
+        let later : drop 8 ws ≡ rest = ap (drop 8) e ∙ ap (λ n. drop n (piece ++ rest)) (sym eight) ∙ drop-append_seam piece rest in
+        absorb-chunk s ws long ∙ ap₂ (λ k xs. absorb_all (absorb k s) (blocks_of xs)) (key ∙ ap number_of same) later

@@ -2,7 +2,7 @@
 use mathlib.Core.Path.{◌≡◌, refl, sym, ap, ap₂, ◌∙◌}
 use mathlib.Core.Bool.{true, false, not, ◌&&◌}
 use mathlib.Core.List.{List, [], ◌∷◌}
-use Prim.Native.Nat.{ℕ, zero, suc, ◌+◌, ◌-◌, ◌≤◌, ◌<◌}
+use Prim.Native.Nat.{ℕ, zero, suc, ◌+◌, ◌≤◌, ◌<◌}
 use native.Mathlib.Numerals.{add-one}
 use native.Mathlib.Omega.{arith}
 use lib.Dec.{eqb}
@@ -109,23 +109,6 @@ blank-raw n s t z = eqb-true s 0 (not-false _ (rw (eq-eqb n 0 z) at t))
 
 blank-raw-test : (n s : ℕ) → (n ≡ 0 → s ≡ 0) → (eqb n 0 && not (eqb s 0)) ≡ false
 blank-raw-test n s h = by_cases (eqb n 0) (λ t. rw (t, eq-eqb s 0 (h (eqb-true n 0 t)))) (λ t. rw t)
-
-pub blank-invalid : (s n : ℕ) → (eqb n 0 && not (eqb s 0)) ≡ true → life_cycle_of (Some s) (Some n) ≡ None
-unfolding life_cycle_of
-blank-invalid s n t = if-true _ _ t
-
-pub both-valid : (s n : ℕ) → (eqb n 0 && not (eqb s 0)) ≡ false → life_cycle_of (Some s) (Some n) ≡ Some (record { state = s; count = n })
-unfolding life_cycle_of
-both-valid s n t = if-false _ _ t
-
-pub no-state : (count : Option ℕ) → life_cycle_of None count ≡ None
-unfolding life_cycle_of
-no-state count = refl
-
-pub no-count : (state : Option ℕ) → life_cycle_of state None ≡ None
-unfolding life_cycle_of
-no-count None = refl
-no-count (Some s) = refl
 
 valid-parts : (state count : Option ℕ) (s n : ℕ) → life_cycle_of state count ≡ Some (record { state = s; count = n })
     → (state ≡ Some s) × (count ≡ Some n) × (n ≡ 0 → s ≡ 0)

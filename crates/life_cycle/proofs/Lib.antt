@@ -3,3 +3,4 @@ pub mod Table
 pub mod Covering
 pub mod Distinct
 pub mod Decoding
+pub mod Choices

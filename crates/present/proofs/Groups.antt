@@ -13,8 +13,8 @@ sixteen-power (suc i) =
     pow-suc 16 i ∙ ap (λ (x : ℕ). x * 16) (sixteen-power i) ∙ sym (pow-add 2 (4 * i) 4) ∙ ap (λ (x : ℕ). 2 ^ x) (sym (mul-suc 4 i))
 
 -- `(x >> 4 * i) & 15`
-pub group-is : (x i : ℕ) → bit_and (x / 2 ^ (4 * i)) 15 ≡ digit 16 x i
-group-is x i = rw sixteen-power (and_mask (x / 2 ^ (4 * i)) 4)
+pub group_is : (x i : ℕ) → bit_and (x / 2 ^ (4 * i)) 15 ≡ digit 16 x i
+group_is x i = rw sixteen-power (and_mask (x / 2 ^ (4 * i)) 4)
 
 -- `d << (4 * i)`, where nothing is shifted out
 pub group-shifted : (d i : ℕ) → d < 16 → i < 16 → d * 2 ^ (4 * i) % 2 ^ 64 ≡ d * 16 ^ i

@@ -18,6 +18,7 @@ const S_BOX: u64 = 0x2174_8fe3_da09_b65c;
 const S_BOX_INVERSE: u64 = 0xa970_364b_d21c_8fe5;
 
 // Group i of four bits of x.
+#[tactic(auto, using(crate::proofs::Groups::group_is))]
 fn group(x: u64, i: u64) -> u64
     requires { i < 16 }
     ensures { result ≡ digit 16 x i }
@@ -26,6 +27,7 @@ fn group(x: u64, i: u64) -> u64
 }
 
 // The S-box at v.
+#[tactic(auto, using(crate::proofs::Boxes::held), unfolding(crate::specs::Present::s_box, basics::specs::Range::all_below))]
 fn s_box(v: u64) -> u64
     requires { v < 16 }
     ensures { (result ≡ s_box v) × (result < 16) }
@@ -34,6 +36,7 @@ fn s_box(v: u64) -> u64
 }
 
 // Each group of x through the box that a word holds.
+#[tactic(auto, unfolding(crate::specs::Present::substitute, basics::specs::Range::sum))]
 fn substituted(word: u64, x: u64) -> u64
     ensures { result ≡ substitute (digit 16 word) x }
 {
@@ -96,6 +99,7 @@ fn top_substituted(key: u128) -> u128
 }
 
 // The key step of a round.
+#[tactic(auto, using(crate::proofs::KeyRegister::rotated), unfolding(crate::specs::Present::key_step))]
 fn key_step(round: usize, key: u128) -> u128
     ensures { result ≡ key_step round key }
 {
@@ -103,6 +107,7 @@ fn key_step(round: usize, key: u128) -> u128
 }
 
 // The 32 round keys.
+#[tactic(auto, unfolding(crate::specs::Present::key_after))]
 fn round_keys(key: u128) -> [u64; 32]
     ensures { result ≡ round_keys key }
 {
@@ -116,6 +121,7 @@ fn round_keys(key: u128) -> [u64; 32]
 }
 
 // A block encrypted under a key. The key register goes along with the state.
+#[tactic(auto, unfolding(crate::specs::Present::key_after, crate::specs::Present::state_after, crate::specs::Present::encrypt_block))]
 pub fn encrypt(key: u128, block: u64) -> u64
     ensures { result ≡ encrypt_block key block }
 {

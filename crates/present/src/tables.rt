@@ -1,5 +1,6 @@
 // The constant tables of the rounds: an entry for each place of a group of four bits and each value of the group. Entry 16 * i + v is for
 // group i with the value v. Each is a `static`, which is never built at run time; a constant that is indexed is built anew at each use.
+// Kept (fixed): the paper names `ROUND` and that `round_table` promises its rule; the table back is another table by another rule.
 ghost use Rattle.std.specs.Prelude.{◌≡◌};
 ghost use Rattle.present.specs.Present.{s_box, permute, s_box_inverse, permute_back};
 ghost use Rattle.present.specs.Tables.{table_of};

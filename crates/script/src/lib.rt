@@ -258,6 +258,7 @@ fn put_digits(part: &mut [u8], base: u64, x: u64)
 }
 
 // The line of a record: kind, code and value in hex.
+#[tactic(auto, unfolding(crate::specs::Lines::digits, crate::specs::Lines::line_of))]
 pub fn line(kind: u8, code: u8, value: u64) -> [u8; 23]
     ensures { result ≡ line_of kind code value }
 {

@@ -1,16 +1,15 @@
 -- When the state is permuted: while bytes are taken, before the byte after a full block; while they are given, likewise. The idea: the test that decides.
-use mathlib.Core.Path.{◌≡◌, refl, ap, ◌∙◌}
-use mathlib.Core.Bool.{Bool, true, false, ◌&&◌}
+use mathlib.Core.Path.{◌≡◌, sym, ap, ◌∙◌}
 use mathlib.Core.List.{List}
-use Prim.Native.Nat.{ℕ, suc, ◌-◌, ◌/◌, ◌%◌, ◌≤◌, ◌<◌}
+use Prim.Native.Nat.{ℕ, suc, ◌+◌, ◌/◌, ◌%◌, ◌≤◌, ◌<◌}
 use native.Mathlib.Omega.{arith}
-use lib.Dec.{eqb, leb, ltb, lit<}
-use borrow.Author.Tests.{eqb-true, eqb-false, ltb-true, ltb-false, leb-true, leb-false, le-leb, lt-leb}
-use Rattle.basics.proofs.Choice.{by_cases, if-true, if-false, if-both, and_left, and_right, true-not-false}
+use lib.Dec.{leb, ltb, lit<}
+use borrow.Author.Tests.{ltb-true, ltb-false, leb-true, leb-false, le-leb, lt-leb}
+use Rattle.basics.proofs.Choice.{by_cases, if-true, if-false, if-both}
 use Rattle.keccak.specs.Permutation.{keccak_f}
 use Rattle.sponge.specs.declared.Sponge.{Sponge}
 use Rattle.sponge.specs.Sponge.{permuted_times}
-use Rattle.sponge.specs.Streaming.{rate, sponge_of, with_byte, permuted_if_full, finished}
+use Rattle.sponge.specs.Streaming.{rate, sponge_of, permuted_if_full}
 
 pub not_full : (s : Sponge) → s.at < rate → permuted_if_full s ≡ s
 unfolding permuted_if_full
@@ -31,34 +30,28 @@ place-after s h =
     if-both (λ (t : Sponge). t.at ≡ s.at % rate) (leb rate s.at) _ s (λ e. omega (arith, leb-true rate s.at e))
     (λ e. omega (arith, leb-false rate s.at e))
 
--- the padding, step by step
-pub finished-steps : (s : Sponge) (suffix : ℕ) {t : Sponge} {one both : List ℕ}
-    → t ≡ permuted_if_full s → one ≡ with_byte t.lanes t.at suffix → both ≡ with_byte one 167 0x80 → keccak_f both ≡ finished s suffix
-unfolding finished
-finished-steps s suffix e f g =
-    ap keccak_f (g ∙ ap (λ (l : List ℕ). with_byte l 167 0x80) (f ∙ ap (λ (u : Sponge). with_byte u.lanes u.at suffix) e))
+pub place : {s t : Sponge} → s ≡ t → s.at ≡ t.at
+place e = ap (λ (u : Sponge). u.at) e
 
 -- ---- bytes given
 
-pub tested : (i k : ℕ) → (ltb 0 i && eqb (i % rate) k) ≡ true → (0 < i) × (i % rate ≡ k)
-tested i k t = (ltb-true 0 i (and_left (ltb 0 i) _ t), eqb-true (i % rate) k (and_right (ltb 0 i) _ t))
-
-pub permuted-due : (state : List ℕ) (i : ℕ) → 0 < i → i % rate ≡ 0 → keccak_f (permuted_times ((i - 1) / rate) state) ≡ permuted_times (i / rate) state
+-- after byte i of a state is given, the lanes are those that give the next one
+pub next-given : (state : List ℕ) (i : ℕ)
+    → permuted_if_full (sponge_of (permuted_times (i / rate) state) (i % rate + 1)) ≡ sponge_of (permuted_times ((i + 1) / rate) state) ((i + 1) % rate)
 unfolding permuted_times
-permuted-due state i l z =
-    let e : i / rate ≡ suc ((i - 1) / rate) = omega arith in
-    rw e
-
-pub permuted-not-due : (state : List ℕ) (i : ℕ) → (ltb 0 i && eqb (i % rate) 0) ≡ false
-    → permuted_times ((i - 1) / rate) state ≡ permuted_times (i / rate) state
-permuted-not-due state i f = ap (λ (n : ℕ). permuted_times n state) e
+next-given state i = by_cases (ltb (i % rate + 1) rate) (λ t. same (ltb-true _ _ t)) (λ t. permuted (ltb-false _ _ t))
   where
-    first : (a b : Bool) → (a && b) ≡ false → a ≡ true → b ≡ false
-    first true b f t = f
-    first false b f t = absurd (true-not-false t refl)
+    given : Sponge
+    given = sponge_of (permuted_times (i / rate) state) (i % rate + 1)
 
-    e : (i - 1) / rate ≡ i / rate
-    e =
-        by_cases (ltb 0 i)
-        (λ t. let z : i % rate ≡ 0 → ⊥ = eqb-false (i % rate) 0 (first (ltb 0 i) _ f t) in omega (arith, ltb-true, z))
-        (λ t. omega (arith, ltb-false))
+    same : i % rate + 1 < rate → permuted_if_full given ≡ sponge_of (permuted_times ((i + 1) / rate) state) ((i + 1) % rate)
+    same h =
+        let d : (i + 1) / rate ≡ i / rate = omega arith in
+        let m : (i + 1) % rate ≡ i % rate + 1 = omega arith in
+        not_full given h ∙ sym (rw (d, m))
+
+    permuted : rate ≤ i % rate + 1 → permuted_if_full given ≡ sponge_of (permuted_times ((i + 1) / rate) state) ((i + 1) % rate)
+    permuted h =
+        let d : (i + 1) / rate ≡ suc (i / rate) = omega arith in
+        let m : (i + 1) % rate ≡ 0 = omega arith in
+        full-permuted given h ∙ sym (rw (d, m))

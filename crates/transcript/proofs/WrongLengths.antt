@@ -25,7 +25,7 @@ use Rattle.script.specs.Records.{kind_of}
 use Rattle.script.specs.Lines.{line_of, end_line}
 use Rattle.script.proofs.Records.{too_long}
 use Rattle.transcript.specs.Files.{pairs, file_words}
-use Rattle.transcript.specs.Transcript.{Line, refused_kind, lines_from, map_for, map_used, chip_of, lines_of, printed, transcript}
+use Rattle.transcript.specs.Transcript.{Line, refused_kind, lines_from, map_used, chip_of, lines_of, printed, transcript}
 use Rattle.transcript.proofs.Files.{pairs-length}
 use Rattle.transcript.proofs.Maps.{map1-named, map2-named}
 use Rattle.transcript.proofs.Lines.{lines-whole}

@@ -2,10 +2,8 @@
 use Rattle.std.specs.Prelude.{ℕ, zero, suc, ◌+◌, List, ◌++◌}
 use Rattle.partitions.specs.Map.{Map}
 use Rattle.model.specs.Answers.{code_of, value_of}
-use Rattle.model.specs.declared.Session.{Session}
 use Rattle.model.specs.Lent.{Lent, Machine}
 use Rattle.chip.specs.Chip.{machine_of, result_for}
-use Rattle.script.specs.declared.Refusal.{Refusal}
 use Rattle.script.specs.declared.Reading.{Reading}
 use Rattle.script.specs.declared.Reading.TheVariants.{Record, End, Refused}
 use Rattle.script.specs.Records.{kind_of, refusal_code, next_at}

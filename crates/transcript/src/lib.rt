@@ -64,7 +64,7 @@ pub fn run_record(
 ) -> RunOutcome
     ensures { run_with (lent_of cells.new copy.new chip.entry.constants.now) result
         ≡ run_of (map_of chip.entry.map) reader.entry.script.now reader.entry.place
-            (machine_of (lent_of cells.old copy.old chip.entry.constants.now) session) }
+        (machine_of (lent_of cells.old copy.old chip.entry.constants.now) session) }
 {
     let reading = reader.next();
     let Reading::Record(command, next) = reading else {

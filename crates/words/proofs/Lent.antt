@@ -8,7 +8,7 @@ use native.Mathlib.Numerals.{add-one}
 use native.Mathlib.Omega.{arith}
 use lib.Dec.{ltb}
 use lib.ListN.{length, get_or, set, take, drop, length-drop, length-set, take-append-drop, get_or-eq_default}
-use lib.Seq.{sets, sets-eq, get_or-take, get_or-drop, drop-drop, drop-length, drop-cons, take_all, length-take-le}
+use lib.Seq.{sets, sets-eq, get_or-take, get_or-drop, drop-drop, drop-length, take_all, length-take-le}
 use borrow.Author.Tests.{ltb-true, ltb-false}
 use Rattle.std.specs.Prelude.{Option, Some, None, Result, Ok, Err, ⊤, cond, position, zip, MatchResult, IsErrAnd}
 use Rattle.std.proofs.lemmas.Result.{err_from_is_err_and}
@@ -19,7 +19,7 @@ use Rattle.basics.proofs.Choice.{by_cases}
 use Rattle.words.specs.declared.Rule.{Rule}
 use Rattle.words.specs.Programming.{refuses, program_answer, program_cells}
 use Rattle.words.proofs.Parts.{sets-past}
-use Rattle.words.proofs.Programming.{answer-next, answer-stop, by_answer, append-stop, append-next, blank-done, refused-lowest, stored-done}
+use Rattle.words.proofs.Programming.{by_answer, append-stop, append-next, blank-done, stored-done}
 use Rattle.words.proofs.Programming.{stored_refused}
 
 -- ---- the search over a part: what it finds is the answer

@@ -93,6 +93,9 @@ number-halves c at =
     let e : at + 4 ≡ suc (suc (suc (suc at))) = omega arith in
     rw e (omega arith)
 
+-- the laws of parts as code takes them
+pub ruleset parts = (rest-slice, number-part, zeros-past)
+
 -- ---- storing a value
 
 pub sets-elsewhere : (vs c : List ℕ) (at j : ℕ) → (at ≤ j → j < at + length vs → ⊥) → get_or (sets c at vs) j 0 ≡ get_or c j 0

@@ -86,3 +86,5 @@ or-refuses s v l =
 pub blank-refuses : (s v : ℕ) → not (eqb s 0) ≡ refuses BlankOnly s v
 unfolding refuses
 blank-refuses s v = refl
+
+pub ruleset rule_tests = (or-refuses, blank-refuses)

@@ -40,6 +40,7 @@ pub fn join(words: &[u16]) -> u64
 }
 
 // The number of the four words from `at` on, zeros past the last word.
+#[tactic(auto, using(crate::proofs::Parts::parts))]
 pub fn block_at(words: &[u16], at: usize) -> u64
     ensures { result ≡ number_of (part_at words.now at 4) }
 {
@@ -51,6 +52,7 @@ pub fn block_at(words: &[u16], at: usize) -> u64
 }
 
 // The number of the eight words from `at` on, zeros past the last word.
+#[tactic(auto, using(crate::proofs::Parts::parts))]
 pub fn eight_words(words: &[u16], at: usize) -> u128
     ensures { result ≡ number_of (part_at words.now at 8) }
 {
@@ -63,6 +65,7 @@ pub fn eight_words(words: &[u16], at: usize) -> u128
 }
 
 // Whether a stored word refuses a word of a value.
+#[tactic(auto, using(crate::proofs::Rules::rule_tests))]
 fn refuses(rule: Rule, stored: u16, value: u16) -> bool
     ensures { result ≡ refuses rule stored value }
 {

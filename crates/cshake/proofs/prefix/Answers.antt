@@ -7,4 +7,4 @@ pub returns : goal.returns
 returns c =
     let a = c.args in
     prefix-taken (encode_string a.name.now) (encode_string a.customization.now)
-    c.new.ensures c.take_number-s.ensures c.take_string.ensures c.take_string-2.ensures c.fill.ensures
+    c.new-sponge.ensures c.take_number.ensures c.take_string.ensures c.take_string-2.ensures c.fill.ensures

@@ -5,4 +5,4 @@ use Rattle.cshake.proofs.shake128.Goals as goal
 pub returns : goal.returns
 returns c =
     shake-is c.args.message.now _ (λ i. (c.type_inv.message i).fits)
-    c.new.ensures c.take_all.ensures c.finish.ensures c.squeeze.ensures
+    c.new-sponge.ensures c.take_all.ensures c.finish.ensures c.squeeze.ensures

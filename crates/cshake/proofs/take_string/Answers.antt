@@ -3,6 +3,4 @@ use Rattle.cshake.proofs.Taking.{string-taken}
 use Rattle.cshake.proofs.take_string.Goals as goal
 
 pub returns : goal.returns
-returns c =
-    let a = c.args in
-    string-taken a.sponge a.text.now c.take_number.ensures c.take_all.ensures
+returns c = string-taken c.args.sponge.now c.args.text.now c.take_number.ensures c.take_all.ensures

@@ -1,5 +1,5 @@
 -- Each iteration adds one term of a sum, and a part of the sum is at most the whole.
-use Rattle.std.proofs.Common.{◌≡◌, ℕ, suc, ◌+◌, ◌*◌, ◌%◌, ◌^◌, ◌<◌, refl, ap, ◌∙◌, add-one, arith, lit<}
+use Rattle.std.proofs.Common.{◌≡◌, ℕ, suc, ◌+◌, ◌*◌, ◌%◌, ◌^◌, ◌<◌, ap, ◌∙◌, add-one, arith, lit<}
 use Rattle.basics.specs.Range.{sum}
 use Rattle.basics.specs.Digits.{digit}
 use Rattle.basics.proofs.Sum.{sum-upto}
@@ -9,10 +9,6 @@ use Rattle.present.proofs.Groups.{group-shifted}
 use Rattle.present.proofs.Boxes.{substitute-lt}
 use Rattle.present.proofs.substituted.Invariants.{boxed}
 use Rattle.present.proofs.substituted.Goals as goal
-
-pub loop-i-init : goal.loop-i-init
-unfolding sum
-loop-i-init c = refl
 
 -- one more group, from what the two groups answer
 one_more : (word x : ℕ) {out i g d : ℕ} → out ≡ sum i (boxed word x) → i < 16 → g ≡ digit 16 x i → d ≡ digit 16 word g
@@ -35,7 +31,3 @@ overflow_add-out c =
     let part = sum-upto 16 (suc i) (boxed a.word a.x) (omega arith) in
     let whole = substitute-lt (digit 16 a.word) (λ v h. digit_lt 16 (lit< tt) a.word v) a.x in
     record { fits = omega (arith, next, part, whole) }
-
-pub returns : goal.returns
-unfolding substitute
-returns c = c.loop-i.invariant ∙ (let e : c.loop-i.i ≡ 16 = omega arith in rw e)

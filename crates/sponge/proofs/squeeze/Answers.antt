@@ -1,37 +1,27 @@
--- The invariant: the bytes before i are those of the definition, and the lanes those that gave byte i - 1.
-use mathlib.Core.Path.{◌≡◌, refl, ap, ◌∙◌}
-use mathlib.Core.List.{List}
-use Prim.Native.Nat.{ℕ, ◌+◌, ◌-◌, ◌/◌, ◌%◌}
-use native.Mathlib.Omega.{arith}
+-- The invariant: the bytes before the loop's are those of the definition, and with a full block permuted the lanes are those that give the next one.
+use Rattle.std.proofs.Common.{◌≡◌, ◌+◌, refl, ap, ◌∙◌, arith}
 use Rattle.basics.proofs.Range.{follows-none, follows-more, follows-all}
-use Rattle.keccak.specs.Permutation.{keccak_f}
+use Rattle.sponge.specs.declared.Sponge.{Sponge}
 use Rattle.sponge.specs.Sponge.{state_byte, permuted_times, squeezed}
-use Rattle.sponge.specs.Streaming.{rate}
-use Rattle.sponge.proofs.Permuting.{tested, permuted-due, permuted-not-due}
+use Rattle.sponge.specs.Streaming.{sponge_of, permuted_if_full}
+use Rattle.sponge.proofs.Permuting.{not_full, place, next-given}
 use Rattle.sponge.proofs.squeeze.Goals as goal
-use Rattle.sponge.proofs.squeeze.Goals.{then-i, else-i}
 
-pub loop-i-init : goal.loop-i-init
+pub loop-byte-init : goal.loop-byte-init
 unfolding permuted_times
-loop-i-init c = (follows-none refl, refl)
+loop-byte-init c =
+    let start : c.new.result.at ≡ 0 = place c.new.ensures in
+    (follows-none refl, not_full _ (omega arith) ∙ ap (sponge_of c.args.state) start)
 
-pub loop-i-preserved : goal.loop-i-preserved
-loop-i-preserved c =
-    let i : ℕ = c.loop-i.i in
-    let state : List ℕ = c.args.state in
-    let back : i ≡ i + 1 - 1 = omega arith in
-    let lanes : c.if-i.lanes ≡ permuted_times (i / rate) state =
-    elim c.if-i.branch [
-      | then-i w ↦
-          let t = tested i _ w.if-i.true in
-          w.lanes-is ∙ w.permuted-next.ensures ∙ ap keccak_f c.loop-i.invariant.1 ∙ permuted-due state i t.0 (omega arith)
-      | else-i w ↦ w.lanes-is ∙ c.loop-i.invariant.1 ∙ permuted-not-due state i w.if-i.false
-    ]
-    in (
-      follows-more c.loop-i.invariant.0 (omega arith) (c.byte_at.ensures ∙ ap (λ (a : List ℕ). state_byte a (i % rate)) lanes),
-      lanes ∙ ap (λ (n : ℕ). permuted_times (n / rate) state) back,
+pub loop-byte-preserved : goal.loop-byte-preserved
+loop-byte-preserved c =
+    let v = c.loop-byte in
+    let byte = ap (λ (s : Sponge). state_byte s.lanes s.at) v.invariant.1 in
+    let after = ap (λ (s : Sponge). permuted_if_full (sponge_of s.lanes (s.at + 1))) v.invariant.1 in (
+      follows-more v.invariant.0 (omega arith) (c.give.ensures.byte ∙ byte),
+      ap permuted_if_full c.give.ensures.state ∙ after ∙ next-given c.args.state v.byte-index,
     )
 
 pub returns : goal.returns
 unfolding squeezed
-returns c = follows-all c.loop-i.invariant.0 (omega arith)
+returns c = follows-all c.loop-byte.invariant.0 (omega arith)

@@ -1,7 +1,7 @@
 -- The invariant: the first i words are the file's, the others as they were.
-use Prim.Native.Nat.{ℕ, ◌<◌, ◌%◌, ◌/◌}
+use Prim.Native.Nat.{◌<◌, ◌%◌, ◌/◌}
 use mathlib.Core.Path.{◌≡◌, refl, sym, ap, ◌∙◌}
-use mathlib.Core.Bool.{true, false}
+use mathlib.Core.Bool.{true}
 use mathlib.Core.List.{[], ◌++◌}
 use native.Mathlib.Omega.{arith}
 use lib.Dec.{eqb}
@@ -30,9 +30,6 @@ returns-then-not-is_empty-clause-count c = (none_lent _ _ c.args.words.now (none
 pub returns-then-not-is_empty-clause-words : goal.returns-then-not-is_empty-clause-words
 returns-then-not-is_empty-clause-words c = (none_lent _ _ c.args.words.now (none c)).1
 
-pub loop-i-init : goal.loop-i-init
-loop-i-init c = (omega arith, refl)
-
 pub loop-i-preserved : goal.loop-i-preserved
 loop-i-preserved c =
     let b = c.args.bytes.now in
@@ -40,8 +37,8 @@ loop-i-preserved c =
     let n = c.as_chunks.ensures.front_len in
     let l : i < length (pairs b) = omega (arith, pairs-length b) in
     let v = c.from_le_bytes.ensures
-        ∙ ap (λ ps. from_le_bytes w16 (get_or ps i [])) c.as_chunks.ensures.front
-        ∙ pair-chunk (length b / 2) b i [] refl (omega (arith, pairs-length b)) in
+    ∙ ap (λ ps. from_le_bytes w16 (get_or ps i [])) c.as_chunks.ensures.front
+    ∙ pair-chunk (length b / 2) b i [] refl (omega (arith, pairs-length b)) in
     (omega arith, rw (c.loop-i.invariant.1, v) (filled_more c.args.words.now (pairs b) i (omega (arith, pairs-length b)) l))
 
 pub returns : goal.returns

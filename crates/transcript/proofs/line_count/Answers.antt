@@ -1,6 +1,6 @@
 -- The invariant: the lines counted and those left from the place on are those of the whole script.
 use Prim.Native.Nat.{ℕ}
-use mathlib.Core.Path.{◌≡◌, refl, sym, ap, ◌∙◌}
+use mathlib.Core.Path.{◌≡◌, sym, ap, ◌∙◌}
 use mathlib.Core.List.{List}
 use native.Mathlib.Omega.{arith}
 use Rattle.script.specs.declared.Reading.{Reading}
@@ -21,9 +21,6 @@ found c = here c.loop-next.reader.place c.loop-next.invariant.0 c.next.ensures c
 
 read : (c : In-Record) → IsRead c.args.script.now c.loop-next.reader.place c.in-Record.field-0 c.in-Record.next
 read c = is_read _ _ (found c)
-
-pub loop-next-init : goal.loop-next-init
-loop-next-init c = (refl, omega arith, omega arith, omega arith)
 
 pub loop-next-smaller : goal.loop-next-smaller
 loop-next-smaller c = omega (arith, (read c).above, (read c).within)

@@ -1,13 +1,10 @@
--- Two numbers of four words; past the end all are zero.
-use mathlib.Core.Path.{◌≡◌, sym, ap₂, ◌∙◌}
+-- Two numbers of four words, the high one shifted above the low one.
+use mathlib.Core.Path.{◌≡◌, ap₂, ◌∙◌}
 use Prim.Native.Nat.{ℕ, ◌+◌, ◌*◌, ◌^◌, ◌%◌}
 use native.Mathlib.Omega.{arith}
 use Rattle.std.proofs.lemmas.Nat.{or_shifted}
-use Rattle.words.proofs.Parts.{zeros-past, number-halves}
+use Rattle.words.proofs.Parts.{number-halves}
 use Rattle.words.proofs.eight_words.Goals as goal
-
-pub returns-then-words-at : goal.returns-then-words-at
-returns-then-words-at c = sym (zeros-past c.args.words.now c.args.at 8 c.if-words-at.true)
 
 pub returns : goal.returns
 returns c =

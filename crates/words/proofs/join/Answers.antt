@@ -1,6 +1,6 @@
 -- The fold over the lowest four words, or over all of them where they are fewer.
 use mathlib.Core.Path.{◌≡◌, ap, ◌∙◌}
-use Rattle.std.specs.Prelude.{ℕ, List, ◌*◌, ◌^◌, ◌%◌, fold, reverse, length, min, take, bit_or}
+use Rattle.std.specs.Prelude.{ℕ, ◌*◌, ◌^◌, ◌%◌, fold, reverse, length, min, take, bit_or}
 use Rattle.std.proofs.lemmas.List.{take_min}
 use borrow.Author.Rules.{rules}
 use native.Mathlib.Omega.{arith}

@@ -1,13 +1,9 @@
 -- The part lent ends within the cells and is as long as the words lent with it; the laws of `Lent` carry its answer and its words to the whole array.
-use mathlib.Core.Path.{◌≡◌, sym, ap, ◌∙◌}
-use mathlib.Core.List.{List, ◌++◌}
-use Prim.Native.Nat.{ℕ, ◌+◌, ◌-◌, ◌<◌}
+use mathlib.Core.Path.{◌≡◌, ◌∙◌}
+use Prim.Native.Nat.{◌+◌, ◌-◌}
 use native.Mathlib.Omega.{arith}
 use borrow.Author.Rules.{rules}
-use lib.ListN.{take, drop}
-use Rattle.words.specs.declared.Rule.{Rule}
-use Rattle.words.specs.Programming.{program_answer, program_cells}
-use Rattle.words.proofs.Lent.{past-cells, handed-back, counted, counted-by}
+use Rattle.words.proofs.Lent.{past-cells, handed-back, counted-by}
 use Rattle.words.proofs.program.Goals as goal
 
 pub returns-then-cells-at : goal.returns-then-cells-at

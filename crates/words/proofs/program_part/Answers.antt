@@ -1,9 +1,7 @@
 -- The search finds the answer; where it finds no word the part becomes the value, which is all that `program_cells` stores, and else neither changes it.
-use mathlib.Core.Path.{◌≡◌, sym, ap, ◌∙◌}
+use mathlib.Core.Path.{sym, ap, ◌∙◌}
 use native.Mathlib.Omega.{arith}
 use borrow.Author.Rules.{rules}
-use Rattle.std.specs.Prelude.{Ok, Err}
-use Rattle.words.specs.Programming.{program_answer}
 use Rattle.words.proofs.Programming.{refused-lowest, stored-done, stored_refused}
 use Rattle.words.proofs.Lent.{named, searched, sets-whole}
 use Rattle.words.proofs.program_part.Goals as goal

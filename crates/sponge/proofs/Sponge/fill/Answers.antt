@@ -5,10 +5,10 @@ use Rattle.basics.proofs.Choice.{if-true, if-false}
 use Rattle.sponge.specs.Streaming.{filled}
 use Rattle.sponge.proofs.Sponge.fill.Goals as goal
 
-pub returns-then-self-eq0 : goal.returns-then-self-eq0
+pub returns-then-self-ne0 : goal.returns-then-self-ne0
 unfolding filled
-returns-then-self-eq0 c = sym (if-true _ _ (eq-eqb _ _ c.if-self-eq0.true))
+returns-then-self-ne0 c = sym (if-false _ _ (ne_eqb _ _ c.if-self-ne0.true))
 
-pub returns : goal.returns
+pub returns-else-self-ne0 : goal.returns-else-self-ne0
 unfolding filled
-returns c = sym (if-false _ _ (ne_eqb _ _ c.if-self-eq0.false))
+returns-else-self-ne0 c = sym (if-true _ _ (eq-eqb _ _ c.if-self-ne0.false))

@@ -1,15 +1,13 @@
--- After a full block is permuted the suffix fits in the block.
-use mathlib.Core.Path.{ap, ◌∙◌}
-use native.Mathlib.Omega.{arith}
+-- The suffix is taken as a byte, and the last bit added to the end of its block.
+use Rattle.std.proofs.Common.{ap, ◌∙◌}
+use Rattle.keccak.specs.Permutation.{keccak_f}
 use Rattle.sponge.specs.declared.Sponge.{Sponge}
-use Rattle.sponge.proofs.Permuting.{byte_fits, finished-steps}
+use Rattle.sponge.specs.Streaming.{with_byte, taken, finished}
 use Rattle.sponge.proofs.Sponge.finish.Goals as goal
 
-pub add_byte-requires : goal.add_byte-requires
-add_byte-requires c =
-    omega (arith, ap (λ (s : Sponge). s.at) c.permute_if_full-place.ensures, byte_fits c.args.self)
-
 pub returns : goal.returns
+unfolding taken finished
 returns c =
-    let o = c.args in
-    c.permuted.ensures ∙ finished-steps o.self o.suffix c.permute_if_full-place.ensures c.add_byte.ensures c.add_byte-2.ensures
+    c.permuted.ensures
+    ∙ ap (λ (s : Sponge). keccak_f s.lanes) c.add_byte.ensures
+    ∙ ap (λ (s : Sponge). keccak_f (with_byte s.lanes 167 0x80)) c.take.ensures

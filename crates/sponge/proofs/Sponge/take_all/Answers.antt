@@ -1,16 +1,14 @@
--- The invariant: the bytes before i are taken, so what is left to take are those from i on.
-use mathlib.Core.Path.{sym, ◌∙◌}
-use native.Mathlib.Omega.{arith}
-use Rattle.sponge.specs.Streaming.{sponge_of}
+-- The invariant: the bytes before the loop's are taken, so what is left to take are those from it on.
+use Rattle.std.proofs.Common.{sym, ◌∙◌, arith}
 use Rattle.sponge.proofs.Taking.{take_next, take_none}
 use Rattle.sponge.proofs.Sponge.take_all.Goals as goal
 
-pub loop-i-preserved : goal.loop-i-preserved
-loop-i-preserved c =
-    let bytes = c.args.bytes.now in
-    (omega arith, c.loop-i.invariant.1 ∙ take_next (sponge_of c.loop-i.lanes c.loop-i.at) bytes c.loop-i.i (omega arith) c.take_byte-at.ensures)
+pub loop-byte-preserved : goal.loop-byte-preserved
+loop-byte-preserved c =
+    let v = c.loop-byte in
+    v.invariant ∙ take_next v.self c.args.bytes.now v.byte-index (omega arith) c.take.ensures
 
 pub returns : goal.returns
 returns c =
-    let bytes = c.args.bytes.now in
-    sym (c.loop-i.invariant.1 ∙ take_none (sponge_of c.loop-i.lanes c.loop-i.at) bytes c.loop-i.i (omega arith))
+    let v = c.loop-byte in
+    sym (v.invariant ∙ take_none v.self c.args.bytes.now v.byte-index (omega arith))
