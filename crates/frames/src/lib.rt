@@ -37,7 +37,9 @@ fn perform(
 {
     match script::read_at(script, 0) {
         Reading::Record(command, _) => {
-            let Outcome { session, answer } = controller::execute(chip, cells, copy, session, command);
+            let Outcome { session, answer } = controller::execute(
+                chip, cells, copy, session, command,
+            );
             Stepped {
                 session,
                 code: model::code_of(answer),

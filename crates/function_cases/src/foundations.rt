@@ -14,7 +14,11 @@ fn first(words: &[u16], n: u64) -> &[u16] {
 }
 
 pub(crate) fn digested(case: Case<'_>) -> u64 {
-    digest::digest(case.a, whole(case.b, case.c), first(&words_of(case), case.n))
+    digest::digest(
+        case.a,
+        whole(case.b, case.c),
+        first(&words_of(case), case.n),
+    )
 }
 
 pub(crate) fn joined(case: Case<'_>) -> u64 {
@@ -44,12 +48,7 @@ pub(crate) fn programmed(case: Case<'_>) -> Answer {
     let value = first(&words[48..], case.m);
     let mut cells = [0; 48];
     cells[..count].copy_from_slice(&words[..count]);
-    let result = program(
-        rule_of(case.b),
-        &mut cells[..count],
-        case.a as usize,
-        value,
-    );
+    let result = program(rule_of(case.b), &mut cells[..count], case.a as usize, value);
     let mut data = [0; 96];
     data.copy_from_slice(cells.map(u16::to_le_bytes).as_flattened());
     Answer { result, data }

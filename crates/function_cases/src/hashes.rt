@@ -32,7 +32,9 @@ pub(crate) fn permutation(case: Case<'_>) -> Answer {
     let bytes = lanes.map(u64::to_le_bytes);
     Answer {
         result: 0,
-        data: *bytes.as_flattened()[8 * at_most(case.b, 13)..].first_chunk().unwrap(),
+        data: *bytes.as_flattened()[8 * at_most(case.b, 13)..]
+            .first_chunk()
+            .unwrap(),
     }
 }
 
