@@ -1,20 +1,18 @@
 -- Laws of numbers in bytes. The idea: what the library says of its bytes of a number is said byte by byte, as the definitions say it.
-use Prim.Native.Nat.{ℕ, zero, suc, ◌+◌, ◌*◌, ◌≤◌, ◌<◌}
+use Prim.Native.Nat.{ℕ, zero, suc, ◌+◌, ◌*◌, ◌<◌}
 use mathlib.Core.Path.{◌≡◌, refl, ap, ap₂, sym, ◌∙◌}
 use mathlib.Core.List.{List, [], ◌∷◌, ◌++◌, append_assoc, append-nil}
-use native.Mathlib.Nat.{add_comm, mul-suc}
+use native.Mathlib.Nat.{mul-suc}
 use native.Mathlib.Numerals.{add-one}
 use native.Mathlib.Omega.{arith}
 use lib.ListN.{length, get_or, take, drop, length-append, length-replicate}
 use lib.Seq.{take-suc, take_at, drop_at, drop-drop, length-take-le}
-use Rattle.std.specs.Int.{Width, to_le_bytes, byte_len, bytes_low_first, sum_through, byte_worth}
+use Rattle.std.specs.Int.{Width, to_le_bytes, byte_len, bytes_low_first}
 use Rattle.std.specs.Int.{byte_at as low_byte_at}
 use Rattle.std.specs.List.{flat_map}
-use Rattle.std.proofs.lemmas.List.{get_or-take, get_or-drop}
-use Rattle.basics.specs.Range.{listed, sum}
+use Rattle.basics.specs.Range.{listed}
 use Rattle.basics.specs.Digits.{digit}
 use Rattle.basics.proofs.Range.{length-listed}
-use Rattle.script.specs.Records.{byte_at, little_endian_at}
 use Rattle.frames.specs.Bytes.{bytes_of, all_bytes, zeros}
 
 -- ---- the bytes of a number
