@@ -81,6 +81,9 @@ pub if-false {ℓ} : {A : Type ℓ} {b : Bool} (x y : A) → b ≡ false → (wh
 unfolding when◌then◌else◌
 if-false x y e = rw e
 
+-- a choice whose test is known, for a function whose attribute names it
+pub ruleset choices = (if-true, if-false)
+
 pub if-same {ℓ} : {A : Type ℓ} {b : Bool} {x y x' y' : A} → (b ≡ true → x ≡ x') → (b ≡ false → y ≡ y') → (when b then x else y) ≡ (when b then x' else y')
 if-same {b = b} {x = x} {y = y} {x' = x'} {y' = y'} f g =
     by_cases b (λ t. if-true x y t ∙ f t ∙ sym (if-true x' y' t)) (λ t. if-false x y t ∙ g t ∙ sym (if-false x' y' t))

@@ -4,13 +4,10 @@ use mathlib.Core.List.{List, ◌++◌}
 use Prim.Native.Nat.{ℕ, suc, ◌+◌, ◌≤◌, ◌<◌}
 use native.Mathlib.Numerals.{add-one}
 use native.Mathlib.Omega.{arith}
-use lib.ListN.{length, get_or, set, take, drop, length-append, length-take, length-drop}
+use lib.ListN.{length, get_or, set, take, drop}
 use lib.Seq.{take-suc, take_all, drop-cons, append_snoc, set_at, length-take-le}
 
 module _ (old new : List ℕ) (i : ℕ) where
-  pub filled-length : i ≤ length new → length new ≤ length old → length (take i new ++ drop i old) ≡ length old
-  filled-length h fits = simp (length-append, length-take, length-drop) (omega arith)
-
   pub filled_more : i < length old → i < length new → set (take i new ++ drop i old) i (get_or new i 0) ≡ take (i + 1) new ++ drop (i + 1) old
   filled_more h k =
       rw (add-one i, take-suc new i 0 k, append_snoc, drop-cons old i 0 h)

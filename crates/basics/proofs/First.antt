@@ -1,4 +1,4 @@
--- The first number at which a test fails. The idea: an induction on how many numbers there are; a loop that looks for it has passed every number below its own.
+-- The first number at which a test fails. The idea: an induction on how many numbers there are.
 use mathlib.Core.Path.{◌≡◌, refl, sym, ap, ◌∙◌}
 use mathlib.Core.Bool.{Bool, true, false}
 use Prim.Native.Nat.{ℕ, zero, suc, ◌+◌, ◌≤◌, ◌<◌}
@@ -66,16 +66,3 @@ module _ (test : ℕ → Bool) where
       (λ e. (let later : suc i ≤ k = omega (arith, eqb-false i k e, f.from) in
       next i n (f.before i (omega arith) later)
       ∙ first_some (suc i) n k (record { from = later; below = omega (arith, f.below); fails = f.fails; before = λ j l u. f.before j (omega arith) u })))
-
--- ---- a loop that looks for it
-
-pub record Scanned (test : ℕ → Bool) (n i : ℕ) : Type 0 where
-  pub within : i ≤ n
-  pub passed : (j : ℕ) → j < i → test j ≡ true
-
-module _ {test : ℕ → Bool} {n : ℕ} where
-  pub scanned-all : {i : ℕ} → Scanned test n i → n ≤ i → first_not test 0 n ≡ None
-  scanned-all s l = all_none test 0 n (λ j lo hi. s.passed j (omega arith))
-
-  pub scanned-stop : {i : ℕ} → Scanned test n i → i < n → test i ≡ false → first_not test 0 n ≡ Some i
-  scanned-stop {i} s l t = first_some test 0 n i (record { from = omega arith; below = omega arith; fails = t; before = λ j lo hi. s.passed j hi })

@@ -1,10 +1,9 @@
 -- The judgement, as the code finds it. The idea: each early return is the first reason of the definition that applies; admitted is what is accepted in the
 -- phase Ready.
-use mathlib.Core.Path.{◌≡◌, refl, sym, ap, ◌∙◌}
+use mathlib.Core.Path.{◌≡◌, sym, ap, ◌∙◌}
 use mathlib.Core.Bool.{true, false, not, ◌&&◌}
 use mathlib.Core.List.{List}
 use Prim.Native.Nat.{ℕ, ◌/◌}
-use native.Mathlib.Omega.{arith}
 use lib.Dec.{eqb}
 use Rattle.std.specs.Prelude.{Some, None}
 use lib.ListN.{length}

@@ -1,6 +1,5 @@
 -- What code reads of what is lent, against the definitions. The idea: code branches where a definition chooses, and a part inside the cells is a slice of them.
 use mathlib.Core.Path.{◌≡◌, refl, sym, ap}
-use mathlib.Core.Bool.{true, false}
 use mathlib.Core.List.{List}
 use Prim.Native.Nat.{ℕ, ◌-◌, ◌/◌, ◌≤◌, ◌<◌}
 use native.Mathlib.Omega.{arith}
@@ -9,16 +8,11 @@ use lib.Dec.{ltb}
 use borrow.Author.Tests.{lt-ltb, le-ltb}
 use Rattle.basics.proofs.Choice.{if-true, if-false, or-none, or_right}
 use Rattle.words.proofs.Parts.{part_slice}
-use Rattle.present.specs.Present.{encrypt_block, decrypt_block}
 use Rattle.digest.specs.Digest.{digest_words}
 use Rattle.partitions.specs.declared.Partition.{Partition}
-use Rattle.partitions.specs.Map.{rights_of}
-use Rattle.constants.specs.Constants.{key_of, digest_start, digest_final}
-use Rattle.model.specs.Commands.{data_words, scrambled, unscrambled, computed_digest}
+use Rattle.constants.specs.Constants.{digest_start, digest_final}
+use Rattle.model.specs.Commands.{data_words, computed_digest}
 use Rattle.chip.specs.Chip.{primitives, digest_within}
-
--- a choice whose test is known
-pub ruleset choices = (if-true, if-false)
 
 -- the digest over the slice of the data words
 pub data-digest : (k : List ℕ) (p : Partition) (cells : List ℕ) → p.start / 2 ≤ p.digest / 2 → p.digest / 2 ≤ length cells

@@ -71,7 +71,7 @@ impl Chip<'_> {
 
     // A block as a partition stores it.
     // Kept (plainer): one function over either direction of the cipher would take a closure and its promise, in place of this one test and call.
-    #[tactic(auto, using(crate::proofs::Reading::choices), unfolding(model::specs::Commands::scrambled))]
+    #[tactic(auto, using(basics::proofs::Choice::choices), unfolding(model::specs::Commands::scrambled))]
     pub fn scrambled(self, partition: Partition, block: u64) -> u64
         ensures { result ≡ scrambled primitives self.entry.constants.now partition block }
     {
@@ -82,7 +82,7 @@ impl Chip<'_> {
     }
 
     // A block that a partition stored, in the clear.
-    #[tactic(auto, using(crate::proofs::Reading::choices), unfolding(model::specs::Commands::unscrambled))]
+    #[tactic(auto, using(basics::proofs::Choice::choices), unfolding(model::specs::Commands::unscrambled))]
     pub fn unscrambled(self, partition: Partition, block: u64) -> u64
         ensures { result ≡ unscrambled primitives self.entry.constants.now partition block }
     {

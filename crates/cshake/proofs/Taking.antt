@@ -58,7 +58,8 @@ module _ (s : Sponge) (high low : ℕ) (fits : low < 256) where
       → r ≡ taken u low → r ≡ taken_all s (left_encode (256 * high + low))
   unfolding taken_all listed
   number-taken h {bytes} e {t} {u} {r} count high-bytes byte =
-      by_cases (eqb high 0) (λ z. none (eqb-true _ _ z)) (λ z. number_more n (omega (arith, eqb-false high 0 z)) (some (omega (arith, eqb-false high 0 z))) first rest byte)
+      by_cases (eqb high 0) (λ z. none (eqb-true _ _ z))
+      (λ z. number_more n (omega (arith, eqb-false high 0 z)) (some (omega (arith, eqb-false high 0 z))) first rest byte)
     where
       zeros : ℕ
       zeros = count_leading_zeros 64 high / 8
@@ -82,7 +83,8 @@ module _ (s : Sponge) (high low : ℕ) (fits : low < 256) where
       none z =
           let all : count_leading_zeros 64 high ≡ 64 = ap (count_leading_zeros 64) z ∙ leading_of_zero 64 in
           let no : n ≡ 0 = omega arith in
-          number_small z (first ∙ ap (λ (k : ℕ). taken s (k + 1)) no) (byte ∙ ap (λ (v : Sponge). taken v low) (rest ∙ ap (λ (k : ℕ). taken_all t (bytes_down high k)) no))
+          number_small z (first ∙ ap (λ (k : ℕ). taken s (k + 1)) no)
+          (byte ∙ ap (λ (v : Sponge). taken v low) (rest ∙ ap (λ (k : ℕ). taken_all t (bytes_down high k)) no))
 
 -- encode_string
 pub string-taken : (s : Sponge) (text : List ℕ) {t r : Sponge} → t ≡ taken_all s (left_encode (256 * (length text / 32) + length text % 32 * 8))

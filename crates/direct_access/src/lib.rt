@@ -91,7 +91,7 @@ fn granule(words: &[u16], partition: Partition, address: usize) -> u64
 }
 
 // What a read answers: a digest plain, secret data unscrambled.
-#[tactic(auto, using(chip::proofs::Reading::choices), unfolding(model::specs::Commands::read_value))]
+#[tactic(auto, using(basics::proofs::Choice::choices), unfolding(model::specs::Commands::read_value))]
 fn read_value(chip: Chip<'_>, cells: &[u16], partition: Partition, address: usize) -> u64
     requires { (first_word partition address + word_count partition address ≤ length cells.now) × (word_count partition address ≤ 4) }
     ensures { result ≡ read_value primitives chip.entry.constants.now partition cells.now address }
@@ -105,7 +105,7 @@ fn read_value(chip: Chip<'_>, cells: &[u16], partition: Partition, address: usiz
 }
 
 // The rule of refusal for a write: the old one for data of a kind that keeps it, else the new one.
-#[tactic(auto, using(chip::proofs::Reading::choices), unfolding(model::specs::Commands::direct_rule))]
+#[tactic(auto, using(basics::proofs::Choice::choices), unfolding(model::specs::Commands::direct_rule))]
 fn rule_at(partition: Partition, address: usize) -> Rule
     ensures { result ≡ direct_rule partition address }
 {

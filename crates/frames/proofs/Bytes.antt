@@ -5,7 +5,7 @@ use mathlib.Core.List.{List, [], ◌∷◌, ◌++◌, append_assoc, append-nil}
 use native.Mathlib.Nat.{mul-suc}
 use native.Mathlib.Numerals.{add-one}
 use native.Mathlib.Omega.{arith}
-use lib.ListN.{length, get_or, take, drop, length-append, length-replicate}
+use lib.ListN.{length, get_or, take, drop, length-append}
 use lib.Seq.{take-suc, take_at, drop_at, drop-drop, length-take-le}
 use Rattle.std.specs.Int.{Width, to_le_bytes, byte_len, bytes_low_first}
 use Rattle.std.specs.Int.{byte_at as low_byte_at}
@@ -13,7 +13,7 @@ use Rattle.std.specs.List.{flat_map}
 use Rattle.basics.specs.Range.{listed}
 use Rattle.basics.specs.Digits.{digit}
 use Rattle.basics.proofs.Range.{length-listed}
-use Rattle.frames.specs.Bytes.{bytes_of, all_bytes, zeros}
+use Rattle.frames.specs.Bytes.{bytes_of, all_bytes}
 
 -- ---- the bytes of a number
 
@@ -33,10 +33,6 @@ written w x = low-first x 0 (byte_len w)
 pub bytes-length : (width x : ℕ) → length (bytes_of width x) ≡ width
 unfolding bytes_of
 bytes-length width x = length-listed (digit 256 x) 0 width
-
-pub zeros-length : (n : ℕ) → length (zeros n) ≡ n
-unfolding zeros
-zeros-length n = length-replicate n 0
 
 -- ---- those of numbers
 

@@ -8,7 +8,7 @@ use partitions::MapName;
 use std::array;
 
 // The map of a frame.
-#[tactic(auto, using(chip::proofs::Reading::choices), unfolding(crate::specs::Frames::map_in))]
+#[tactic(auto, using(basics::proofs::Choice::choices), unfolding(crate::specs::Frames::map_in))]
 pub(crate) fn map_in(frame: &[u8; 5120]) -> MapName
     ensures { result ≡ map_in frame.now }
 {
@@ -21,7 +21,7 @@ pub(crate) fn map_in(frame: &[u8; 5120]) -> MapName
 
 // The phase of a number.
 // Kept (plainer): a `From` would stand in `model`, beside the type, and `model` knows no frame.
-#[tactic(auto, using(chip::proofs::Reading::choices), unfolding(crate::specs::Frames::phase_of))]
+#[tactic(auto, using(basics::proofs::Choice::choices), unfolding(crate::specs::Frames::phase_of))]
 fn phase_of(number: u8) -> Phase
     ensures { result ≡ phase_of number }
 {

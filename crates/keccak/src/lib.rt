@@ -3,7 +3,7 @@
 
 mod tables;
 
-ghost use Rattle.std.specs.Prelude.{◌≡◌, ◌+◌, ◌*◌, ◌<◌, ◌≤◌, get_or};
+ghost use Rattle.std.specs.Prelude.{◌≡◌, ◌+◌, ◌*◌, ◌<◌, get_or};
 ghost use Rattle.keccak.specs.StepMappings.{theta, rho, pi, chi, iota};
 ghost use Rattle.keccak.specs.Permutation.{round, keccak_f};
 

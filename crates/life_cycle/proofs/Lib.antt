@@ -3,4 +3,3 @@ pub mod Table
 pub mod Covering
 pub mod Distinct
 pub mod Decoding
-pub mod Choices

@@ -49,7 +49,7 @@ pub enum Token {
 }
 
 // A word of a number: blank for 0, and for another number its upper constant where it marks the word, its lower one where it doesn't.
-#[tactic(auto, using(crate::proofs::Choices::choices))]
+#[tactic(auto, using(basics::proofs::Choice::choices))]
 fn coded_word(constants: &[u16], number: u8, marked: bool, upper: usize, lower: usize) -> u16
     ensures { result ≡ (when eqb number 0 then 0 else when marked then get_or constants.now upper 0 else get_or constants.now lower 0) }
 {
@@ -78,7 +78,7 @@ pub fn counter_words(constants: &[u16], count: u8) -> [u16; 24]
 }
 
 // The state has B in word i.
-#[tactic(auto, using(crate::proofs::Choices::choices), unfolding(crate::specs::Words::has_b))]
+#[tactic(auto, using(basics::proofs::Choice::choices), unfolding(crate::specs::Words::has_b))]
 fn has_b(state: u8, i: usize) -> bool
     ensures { result ≡ has_b state i }
 {
@@ -124,7 +124,7 @@ fn state_of(constants: &[u16], state: &[u16]) -> Option<u8>
 
 // What counter words and state words stand for. Words that are no encoding, and any other number of words, stand for nothing; nor does count 0 with
 // a state other than RAW.
-#[tactic(auto, using(crate::proofs::Choices::choices), unfolding(crate::specs::Words::decoded, crate::specs::Words::life_cycle_of))]
+#[tactic(auto, using(basics::proofs::Choice::choices), unfolding(crate::specs::Words::decoded, crate::specs::Words::life_cycle_of))]
 pub fn decode(constants: &[u16], counter: &[u16], state: &[u16]) -> Option<LifeCycle>
     ensures { result ≡ decoded constants.now counter.now state.now }
 {
@@ -167,7 +167,7 @@ fn test_index(state: u8) -> u8
 }
 
 // The token that a transition of the table needs, row by row; nothing for a transition that is not in the table.
-#[tactic(auto, using(crate::proofs::Choices::choices), unfolding(crate::specs::Transitions::table_entry))]
+#[tactic(auto, using(basics::proofs::Choice::choices), unfolding(crate::specs::Transitions::table_entry))]
 pub fn table_entry(from: u8, to: u8) -> Option<Token>
     ensures { result ≡ table_entry from to }
 {

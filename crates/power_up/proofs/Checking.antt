@@ -62,4 +62,5 @@ pub found_first : (test : ℕ → Bool) {m n : ℕ} (r : Option ℕ) → n ≡ m
     → r ≡ first_not test 0 m
 found_first test None e h = sym (all_none test 0 _ (λ j l u. h j l (omega (arith, e)) (omega arith)))
 found_first test (Some i) e h =
-    sym (first_some test 0 _ i (record { from = h.0; below = omega (arith, e, h.1); fails = h.2 (omega (arith, e, h.1)); before = λ j l u. h.3 j l u (omega (arith, e, h.1)) }))
+    sym (first_some test 0 _ i
+    (record { from = h.0; below = omega (arith, e, h.1); fails = h.2 (omega (arith, e, h.1)); before = λ j l u. h.3 j l u (omega (arith, e, h.1)) }))

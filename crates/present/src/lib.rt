@@ -4,9 +4,9 @@
 
 mod tables;
 
-ghost use Rattle.std.specs.Prelude.{◌≡◌, ℕ, ◌+◌, ◌*◌, ◌/◌, ◌%◌, ◌^◌, ◌<◌};
+ghost use Rattle.std.specs.Prelude.{◌≡◌, ◌+◌, ◌*◌, ◌^◌, ◌<◌};
 ghost use Rattle.basics.specs.Digits.{digit};
-ghost use Rattle.present.specs.Present.{s_box, substitute, permute, round_key, rotate_left61, substitute_top, key_step, round_keys, encrypt_block};
+ghost use Rattle.present.specs.Present.{s_box, substitute, permute, round_key, substitute_top, key_step, round_keys, encrypt_block};
 ghost use Rattle.present.specs.Present.{s_box_inverse, permute_back, decrypt_block};
 ghost use Rattle.present.specs.Tables.{lookups};
 

@@ -1,9 +1,9 @@
 // The script's records and their reader, and the lines of the output.
 #![tactic(auto)]
 
-ghost use Rattle.std.specs.Prelude.{◌≡◌, ◌+◌, ◌≤◌, ◌<◌, true, length, take, drop, MatchResult};
+ghost use Rattle.std.specs.Prelude.{◌≡◌, ◌+◌, ◌≤◌, ◌<◌, length, take, drop, MatchResult};
 ghost use Rattle.script.specs.Kinds.{number_of_kind, GivesKind};
-ghost use Rattle.script.specs.Records.{kind_of, unknown, body_length, little_endian_at, command_at, refusal_code, next_at, place_after};
+ghost use Rattle.script.specs.Records.{kind_of, body_length, little_endian_at, command_at, refusal_code, next_at, place_after};
 ghost use Rattle.script.specs.Reader.{reader_next, advanced_reader};
 ghost use Rattle.script.specs.Lines.{digit_byte, digits, line_of, decimal, end_line};
 

@@ -8,7 +8,6 @@ use lib.Bits.{bit_xor}
 use lib.Dec.{lit<}
 use lib.ListN.{get_or, set}
 use lib.Pow.{pow-add, shl_exact}
-use Rattle.sponge.specs.Sponge.{state_byte}
 use Rattle.sponge.specs.Streaming.{with_byte}
 
 pub power_256 : (k : ℕ) → 2 ^ (8 * k) ≡ 256 ^ k
@@ -25,6 +24,3 @@ pub with-byte : (lanes : List ℕ) (i byte x : ℕ) → x ≡ byte → x < 256
 unfolding with_byte
 with-byte lanes i byte x e h =
     ap (λ (y : ℕ). set lanes (i / 8) (bit_xor (get_or lanes (i / 8) 0) y)) (shifted x (i % 8) h (mod-lt i (lit< tt)) ∙ ap (λ (y : ℕ). y * 256 ^ (i % 8)) e)
-
-pub byte-at : (lanes : List ℕ) (i : ℕ) → get_or lanes (i / 8) 0 / 2 ^ (8 * (i % 8)) % 256 ≡ state_byte lanes i
-byte-at lanes i = ap (λ (y : ℕ). get_or lanes (i / 8) 0 / y % 256) (power_256 (i % 8))

@@ -1,5 +1,5 @@
 -- A transition as its code meets it, refusal by refusal. The idea: each of the paper's tests, once passed, leaves the next act.
-use mathlib.Core.Path.{◌≡◌, sym, ap, ap₂, ◌∙◌}
+use mathlib.Core.Path.{◌≡◌, sym, ap, ◌∙◌}
 use mathlib.Core.Bool.{true, false, not, ◌&&◌}
 use mathlib.Core.List.{List}
 use Rattle.std.specs.Prelude.{None, Result, Ok, Err, ⊤}
@@ -8,7 +8,6 @@ use lib.Dec.{leb, ltb}
 use borrow.Author.Tests.{le-leb, lt-leb, lt-ltb, le-ltb}
 use Rattle.basics.specs.Choice.{when◌then◌else◌}
 use Rattle.basics.proofs.Choice.{if-true, if-false}
-use Rattle.words.specs.declared.Rule.{Rule}
 use Rattle.words.specs.Programming.{program_answer, program_cells}
 use Rattle.words.proofs.Programming.{by_answer, stored_refused}
 use Rattle.partitions.specs.Map.{Map}
@@ -28,11 +27,6 @@ use Rattle.chip.specs.Chip.{primitives, machine_of, result_of, result_for}
 use Rattle.chip.proofs.Acting.{admitting, comes_to, said, program-done, program-refused, admitted-result}
 use Rattle.transition.specs.Permit.{permit_of, as_before, inert, dead, moved_as}
 use Rattle.transition.proofs.Tokens.{permitted_act, authorizing}
-
--- programming takes its place and its words from the definition
-pub same-program : (rule : Rule) (cells : List ℕ) {at at' : ℕ} {ws ws' : List ℕ} → at ≡ at' → ws ≡ ws'
-    → (program_answer rule cells at ws ≡ program_answer rule cells at' ws') × (program_cells rule cells at ws ≡ program_cells rule cells at' ws')
-same-program rule cells e f = (ap₂ (program_answer rule cells) e f, ap₂ (program_cells rule cells) e f)
 
 -- admitted, with a record whose state and count are in range
 pub record Known (map : Map) (m : Machine) : Type 0 where

@@ -2,12 +2,10 @@
 -- the refusal that the permit names.
 use mathlib.Core.Path.{◌≡◌, refl, sym, ap, ◌∙◌}
 use Rattle.std.specs.Prelude.{◌⊎◌, Option, Some, None, Result, Ok, Err, ⊤}
-use mathlib.Core.Bool.{true, false, not, ◌&&◌}
-use Prim.Native.Nat.{ℕ, ◌+◌, ◌*◌, ◌^◌, ◌<◌}
+use mathlib.Core.Bool.{true, false, not}
+use Prim.Native.Nat.{ℕ}
 use native.Mathlib.Omega.{arith}
-use lib.Dec.{eqb}
-use borrow.Author.Tests.{eqb-true, eq-eqb, ne_eqb}
-use Rattle.basics.proofs.Choice.{by_cases, true-not-false, and_left, and_right, and_both, if-true, if-false}
+use Rattle.basics.proofs.Choice.{by_cases, if-true, if-false}
 use Rattle.partitions.specs.Map.{Map, number_of_kind}
 use Rattle.constants.specs.Constants.{raw_unlock_hash}
 use Rattle.life_cycle.specs.declared.Token.{Token}
@@ -29,7 +27,8 @@ use Rattle.transition.specs.Permit.{compared_as, permit_of}
 
 -- a token that is stored needs its partition sensed locked
 module _ (map : Map) (s : Session) (l : Lent) (token : Token) (given : ℕ) where
-  pub not-locked : sensed_locked s (number_of_kind map (token_kind token)) ≡ false → permit_of l (locked_token primitives map s token given) ≡ Err TokenNotLocked
+  pub not-locked : sensed_locked s (number_of_kind map (token_kind token)) ≡ false
+      → permit_of l (locked_token primitives map s token given) ≡ Err TokenNotLocked
   unfolding permit_of locked_token
   not-locked e = ap (permit_of l) (if-true _ _ (ap not e))
 

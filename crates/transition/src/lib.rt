@@ -51,8 +51,10 @@ fn dead(session: Session, cell: usize) -> Outcome
 // Programs the counter words of one stroke more.
 fn spend(chip: Chip<'_>, cells: &mut [u16], count: u8) -> Result<(), usize>
     requires { count < 24 }
-    ensures answer { result ≡ program_answer life_cycle_rule cells.old (counter_at (map_of chip.entry.map)) (counter_words chip.entry.constants.now (suc count)) }
-    ensures words { cells.new ≡ program_cells life_cycle_rule cells.old (counter_at (map_of chip.entry.map)) (counter_words chip.entry.constants.now (suc count)) }
+    ensures answer { result ≡ program_answer life_cycle_rule cells.old (counter_at (map_of chip.entry.map))
+        (counter_words chip.entry.constants.now (suc count)) }
+    ensures words { cells.new ≡ program_cells life_cycle_rule cells.old (counter_at (map_of chip.entry.map))
+        (counter_words chip.entry.constants.now (suc count)) }
 {
     let words = life_cycle::counter_words(chip.constants, count + 1);
     words::program(Rule::KeepBits, cells, chip.counter_at(), &words)
@@ -60,7 +62,8 @@ fn spend(chip: Chip<'_>, cells: &mut [u16], count: u8) -> Result<(), usize>
 
 // Programs the state words of the target.
 fn move_to(chip: Chip<'_>, cells: &mut [u16], session: Session, target: u8) -> Outcome
-    ensures outcome { result ≡ moved_as session (program_answer life_cycle_rule cells.old (state_at (map_of chip.entry.map)) (state_words chip.entry.constants.now target)) }
+    ensures outcome { result ≡ moved_as session
+        (program_answer life_cycle_rule cells.old (state_at (map_of chip.entry.map)) (state_words chip.entry.constants.now target)) }
     ensures words { cells.new ≡ program_cells life_cycle_rule cells.old (state_at (map_of chip.entry.map)) (state_words chip.entry.constants.now target) }
 {
     let words = life_cycle::state_words(chip.constants, target);
@@ -109,7 +112,7 @@ fn place_of(map: MapName, token: Token) -> usize
 }
 
 // The test behind 0x23: the token given is hashed, and its hash compared with the stored one.
-#[tactic(auto, using(chip::proofs::Reading::choices), unfolding(crate::specs::Permit::compared_as, model::specs::Commands::hashes_to))]
+#[tactic(auto, using(basics::proofs::Choice::choices), unfolding(crate::specs::Permit::compared_as, model::specs::Commands::hashes_to))]
 fn compared(stored: u128, given: u128) -> Result<(), Failure>
     ensures { result ≡ compared_as (hashes_to primitives given stored) }
 {

@@ -12,7 +12,6 @@ use Rattle.std.proofs.iter.Yields.{nat_range_steps}
 use Rattle.std.proofs.lemmas.Fn.{fold_over}
 use Rattle.std.proofs.lemmas.Iterator.{YieldsList-from_range}
 use Rattle.std.proofs.lemmas.List.Sums.{fold-append}
-use Rattle.basics.specs.Range.{all_below}
 use Rattle.constants.specs.Constants.{pair_valid}
 use Rattle.constants.proofs.Constants.{fold-below}
 use Rattle.constants.proofs.pairs_valid.Goals as goal
@@ -27,6 +26,6 @@ returns c =
     let J : List ℕ → Bool → Type 0 = λ ys r. r ≡ fold both true ys in
     let folded : c.fold.result ≡ fold both true (range_with_len 0 n) =
     fold_over nat_range_steps (λ i. i) _ J _ (λ ys a x b f h k.
-    (let e : b ≡ (a && test x) = search rules in e ∙ ap (λ v. both v x) h ∙ sym (fold-append both true ys (x ∷ [])), search rules)) (record { start = 0; end = n })
-    (range_with_len 0 n) true c.fold.result all.runs refl c.fold.ensures.ran in
+    (let e : b ≡ (a && test x) = search rules in e ∙ ap (λ v. both v x) h ∙ sym (fold-append both true ys (x ∷ [])), search rules))
+    (record { start = 0; end = n }) (range_with_len 0 n) true c.fold.result all.runs refl c.fold.ensures.ran in
     folded ∙ fold-below n test

@@ -1,5 +1,5 @@
 -- No place, denied, or the digest's location is programmed with what is computed over the data words.
-use mathlib.Core.Path.{◌≡◌, refl, sym, ap, ◌∙◌}
+use mathlib.Core.Path.{◌≡◌, refl, sym, ◌∙◌}
 use Rattle.std.specs.Prelude.{Ok}
 use Rattle.std.proofs.lemmas.Result.{err_from_is_err_and}
 use Rattle.partitions.specs.Maps.{map_of}

@@ -6,4 +6,5 @@ use Rattle.keccak.proofs.iota.Goals as goal
 
 pub returns : goal.returns
 returns c =
-    iota-state (lanes_fit (λ k. search rules)) c.args.i _ (search rules) (constant-at c.round_constants.result.now c.round_constants.ensures c.args.i c.requires)
+    iota-state (lanes_fit (λ k. search rules)) c.args.i _ (search rules)
+    (constant-at c.round_constants.result.now c.round_constants.ensures c.args.i c.requires)

@@ -20,5 +20,6 @@ returns c =
     let map = map_of chip.map in
     let holds = λ (n : ℕ). digest_holds primitives chip.constants.now c.args.cells.now (partition map n) in
     let h = first_from_Range _ _ _ c.find.result (λ n. n < length map → holds n ≡ false) (λ n. n < length map → holds n ≡ true) c.find.ensures.ran
-    (λ x q k l. let w = data-within map (maps-fit chip.map) l in grind arith) (λ x q k. (search rules, λ l. let w = data-within map (maps-fit chip.map) l in grind arith)) in
+    (λ x q k l. let w = data-within map (maps-fit chip.map) l in grind arith)
+    (λ x q k. (search rules, λ l. let w = data-within map (maps-fit chip.map) l in grind arith)) in
     found_first holds c.find.result c.count.ensures h

@@ -13,7 +13,8 @@ pub loop-number-init : goal.loop-number-init
 loop-number-init c = latched-none _ _
 
 pub loop-number-preserved : goal.loop-number-preserved
-loop-number-preserved c = latched-more _ _ _ c.loop-number.number _ c.loop-number.invariant (omega arith) (c.copy_from_slice.ensures.after ∙ c.sensed_block.ensures)
+loop-number-preserved c =
+    latched-more _ _ _ c.loop-number.number _ c.loop-number.invariant (omega arith) (c.copy_from_slice.ensures.after ∙ c.sensed_block.ensures)
 
 pub returns : goal.returns
 returns c =

@@ -1,9 +1,7 @@
 -- A refusal changes nothing; what is accepted is powered up.
-use mathlib.Core.Path.{◌≡◌, refl, sym, ap, ◌∙◌}
+use mathlib.Core.Path.{◌≡◌, sym, ◌∙◌}
 use Rattle.std.specs.Prelude.{None}
-use Rattle.partitions.specs.Map.{Map}
 use Rattle.partitions.specs.Maps.{map_of}
-use Rattle.model.specs.Lent.{Machine}
 use Rattle.chip.specs.Chip.{lent_of, machine_of}
 use Rattle.chip.proofs.Acting.{judgement_of, refused-result}
 use Rattle.chip.proofs.Judging.{accepts}

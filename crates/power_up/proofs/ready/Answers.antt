@@ -6,4 +6,5 @@ use Rattle.power_up.proofs.ready.Goals as goal
 pub returns : goal.returns
 returns c =
     let a = c.args in
-    ready-result _ _ _ (lent_of a.cells.now a.copy.now a.chip.constants.now) c.latch.ensures c.stored_digests-sensed.ensures c.unlocked.ensures c.value_of.ensures
+    ready-result _ _ _ (lent_of a.cells.now a.copy.now a.chip.constants.now)
+    c.latch.ensures c.stored_digests-sensed.ensures c.unlocked.ensures c.value_of.ensures

@@ -24,7 +24,8 @@ ready q =
     record { known = known; target-known = q.if-target-gt-SCRAP.false; stroke-left = q.if-session-ge-STROKES.false }
 
 done : (w : After-permitted)
-    → program_answer life_cycle_rule w.args.cells.now (counter_at (map_of w.args.chip.map)) (counter_words w.args.chip.constants.now (suc w.args.session.count)) ≡ Ok tt
+    → program_answer life_cycle_rule w.args.cells.now (counter_at (map_of w.args.chip.map))
+    (counter_words w.args.chip.constants.now (suc w.args.session.count)) ≡ Ok tt
 done w = sym w.spend.ensures.answer ∙ w.in_default-spend.is
 
 pub returns-in-Err : goal.returns-in-Err

@@ -16,5 +16,6 @@ returns c =
     let at = c.args.at in
     let n = c.min-n.result in
     let size : at + n - at ≡ n = omega arith in
-    let both = handed-back c.args.rule c.args.cells.now c.args.value.now at n (omega arith) (omega arith) (λ l. omega arith) _ size c.program_part.ensures.answer c.program_part.ensures.words in
+    let both = handed-back c.args.rule c.args.cells.now c.args.value.now at n (omega arith) (omega arith) (λ l. omega arith) _ size
+    c.program_part.ensures.answer c.program_part.ensures.words in
     record { answer = counted-by at _ _ c.map_err.ensures.cases (λ i k q. search rules) ∙ both.0; words = both.1 }

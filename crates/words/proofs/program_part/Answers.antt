@@ -5,7 +5,6 @@ use borrow.Author.Rules.{rules}
 use Rattle.words.proofs.Programming.{refused-lowest, stored-done, stored_refused}
 use Rattle.words.proofs.Lent.{named, searched, sets-whole}
 use Rattle.words.proofs.program_part.Goals as goal
-use Rattle.words.proofs.program_part.Goals.{In-Some}
 
 pub returns-in-Some : goal.returns-in-Some
 returns-in-Some c =
@@ -13,7 +12,8 @@ returns-in-Some c =
     let p = c.args.part.now in
     let v = c.args.value.now in
     let refused = searched rule p v c.requires ∙ ap named (sym c.in-Some.ensures) in
-    record { answer = sym refused; words = sym (stored_refused rule p v 0 c.in-Some.i refused); within = omega (arith, (refused-lowest rule v p 0 c.in-Some.i refused).to) }
+    record { answer = sym refused; words = sym (stored_refused rule p v 0 c.in-Some.i refused);
+    within = omega (arith, (refused-lowest rule v p 0 c.in-Some.i refused).to) }
 
 pub returns : goal.returns
 returns c =

@@ -8,4 +8,6 @@ use Rattle.frames.proofs.numbers.words_at.Goals as goal
 
 pub returns : goal.returns
 unfolding numbers_at
-returns g c = made _ _ _ (λ i. little_endian_at c.args.frame.now (c.args.at + 2 * i) 2) g.row.N c.from_fn.ensures.items (λ i y q k. (search rules, search rules))
+returns g c =
+    made _ _ _ (λ i. little_endian_at c.args.frame.now (c.args.at + 2 * i) 2) g.row.N
+    c.from_fn.ensures.items (λ i y q k. (search rules, search rules))
