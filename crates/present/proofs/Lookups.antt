@@ -47,10 +47,12 @@ module _ (box move : ℕ → ℕ) (small : (v : ℕ) → v < 16 → box v < 16) 
 -- ---- the two tables
 
 module _ (table : List ℕ) (x : ℕ) where
-  pub round_lookups : table ≡ table_of s_box permute → lookups table 16 x ≡ permute (substitute s_box x)
+  pub round-lookups : table ≡ table_of s_box permute → lookups table 16 x ≡ permute (substitute s_box x)
   unfolding substitute
-  round_lookups e = rw e (groups-below s_box permute s_box-lt permute-xor 16 x (lit≤ tt))
+  round-lookups e = rw e (groups-below s_box permute s_box-lt permute-xor 16 x (lit≤ tt))
 
-  pub inverse_lookups : table ≡ table_of s_box_inverse permute_back → lookups table 16 x ≡ permute_back (substitute s_box_inverse x)
+  pub inverse-lookups : table ≡ table_of s_box_inverse permute_back → lookups table 16 x ≡ permute_back (substitute s_box_inverse x)
   unfolding substitute
-  inverse_lookups e = rw e (groups-below s_box_inverse permute_back s_box_inverse-lt permute_back-xor 16 x (lit≤ tt))
+  inverse-lookups e = rw e (groups-below s_box_inverse permute_back s_box_inverse-lt permute_back-xor 16 x (lit≤ tt))
+
+pub ruleset lookups_in_tables = (round-lookups, inverse-lookups)

@@ -60,7 +60,7 @@ fn looked_up(table: &[u64; 256], x: u64) -> u64
 }
 
 // The boxes and the move of bits of a round.
-#[tactic(auto, using(crate::proofs::Lookups::round_lookups))]
+#[tactic(auto, using(crate::proofs::Lookups::lookups_in_tables))]
 fn round(x: u64) -> u64
     ensures { result ≡ permute (substitute s_box x) }
 {
@@ -68,7 +68,7 @@ fn round(x: u64) -> u64
 }
 
 // The move of bits back of a state that first goes back through the boxes.
-#[tactic(auto, using(crate::proofs::Lookups::inverse_lookups))]
+#[tactic(auto, using(crate::proofs::Lookups::lookups_in_tables))]
 fn inverse_round(x: u64) -> u64
     ensures { result ≡ permute_back (substitute s_box_inverse x) }
 {
