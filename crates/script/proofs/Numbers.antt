@@ -22,6 +22,10 @@ number-split s at m (suc n) =
     rw (add-suc m n, e, pow-add 256 m n)
     (omega (arith, number-split s at m n, mul-add (256 ^ m) (b * 256 ^ n) (little_endian_at s (at + m) n), mul_left_comm (256 ^ m) b (256 ^ n)))
 
+-- the two halves of a token make the number of its sixteen bytes (docs/DEMANDS.md names this law)
+pub token-whole : (s : List ℕ) (at : ℕ) → little_endian_at s (at + 8) 8 * 2 ^ 64 + little_endian_at s at 8 ≡ little_endian_at s at 16
+token-whole s at = omega (arith, number-split s at 8 8)
+
 -- ---- the library's numbers
 
 worth : (i b : ℕ) → byte_worth i b ≡ b * 256 ^ i
