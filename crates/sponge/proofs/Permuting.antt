@@ -9,7 +9,7 @@ use Rattle.basics.proofs.Choice.{by_cases, if-true, if-false, if-both}
 use Rattle.keccak.specs.Permutation.{keccak_f}
 use Rattle.sponge.specs.declared.Sponge.{Sponge}
 use Rattle.sponge.specs.Sponge.{permuted_times}
-use Rattle.sponge.specs.Streaming.{rate, sponge_of, permuted_if_full}
+use Rattle.sponge.specs.Streaming.{rate, sponge_of, with_byte, permuted_if_full, finished}
 
 pub not_full : (s : Sponge) → s.at < rate → permuted_if_full s ≡ s
 unfolding permuted_if_full
@@ -32,6 +32,13 @@ place-after s h =
 
 pub place : {s t : Sponge} → s ≡ t → s.at ≡ t.at
 place e = ap (λ (u : Sponge). u.at) e
+
+-- the padding, step by step; docs/PROOF_NOTES.md names it
+pub finished-steps : (s : Sponge) (suffix : ℕ) {t : Sponge} {one both : List ℕ}
+    → t ≡ permuted_if_full s → one ≡ with_byte t.lanes t.at suffix → both ≡ with_byte one 167 0x80 → keccak_f both ≡ finished s suffix
+unfolding finished
+finished-steps s suffix e f g =
+    ap keccak_f (g ∙ ap (λ (l : List ℕ). with_byte l 167 0x80) (f ∙ ap (λ (u : Sponge). with_byte u.lanes u.at suffix) e))
 
 -- ---- bytes given
 
