@@ -6,14 +6,9 @@ use native.Mathlib.Omega.{arith}
 use lib.Dec.{eqb}
 use borrow.Author.Tests.{eqb-true, eqb-false}
 use Rattle.std.specs.Prelude.{Some, None}
+use Rattle.std.proofs.lemmas.Option.{none-some, same_Some}
 use Rattle.basics.specs.Range.{first_not}
 use Rattle.basics.proofs.Choice.{by_cases, if-true, if-false}
-
-pub some-not-none : {A : Type 0} {a : A} → Some a ≡ None → ⊥
-some-not-none e = let z : ◌≡◌ {A = ℕ} 0 1 = cc in omega arith
-
-pub some_same : {A : Type 0} {a b : A} → Some a ≡ Some b → a ≡ b
-some_same e = cc
 
 -- k is the first of the n numbers from i on at which the test fails
 pub record FirstNot (test : ℕ → Bool) (i n k : ℕ) : Type 0 where
@@ -44,10 +39,10 @@ module _ (test : ℕ → Bool) where
   none-all i (suc n) e =
       by_cases (test i)
       (λ t. one_more i (i + suc n) t (λ j l u. none-all (suc i) n (sym (next i n t) ∙ e) j l (omega arith)))
-      (λ t. absurd (some-not-none (sym (here i n t) ∙ e)))
+      (λ t. absurd (none-some _ (sym e ∙ here i n t)))
 
   pub some_first : (i n k : ℕ) → first_not test i n ≡ Some k → FirstNot test i n k
-  some_first i zero k e = unfold first_not in (absurd (some-not-none (sym e)))
+  some_first i zero k e = unfold first_not in (absurd (none-some _ e))
   some_first i (suc n) k e = by_cases (test i) (λ t. later t (some_first (suc i) n k (sym (next i n t) ∙ e))) first
     where
       later : test i ≡ true → FirstNot test (suc i) n k → FirstNot test i (suc n) k
@@ -55,7 +50,7 @@ module _ (test : ℕ → Bool) where
 
       first : test i ≡ false → FirstNot test i (suc n) k
       first t =
-          let q = some_same (sym (here i n t) ∙ e) in
+          let q = same_Some _ _ (sym (here i n t) ∙ e) in
           rw (← q) (record { from = omega arith; below = omega arith; fails = t; before = λ j l u. absurd (omega arith) })
 
   pub first_some : (i n k : ℕ) → FirstNot test i n k → first_not test i n ≡ Some k

@@ -23,7 +23,7 @@ use Rattle.words.specs.Programming.{program_answer, program_cells}
 use Rattle.chip.specs.Judging.{admission}
 use Rattle.chip.specs.Chip.{result_for, machine_of, primitives}
 use Rattle.basics.proofs.Choice.{if-true, if-false, by-option, by_cases}
-use Rattle.basics.proofs.First.{some-not-none, some_same}
+use Rattle.std.proofs.lemmas.Option.{none-some, same_Some}
 use Rattle.chip.proofs.Judging.{admitted, phase-ready, phase-not-ready, not-accepted}
 
 -- the judgement of what a machine is lent, and its admission
@@ -89,9 +89,9 @@ module _ (map : Map) (x : Command) (m : Machine) (acts : not_power_up x) where
   refused failure h =
       let phase = m.session.phase in
       by-option (judgement_of map m)
-      (λ e. by_cases (is_ready phase) (λ r. absurd (some-not-none (sym h ∙ phase-ready map _ _ phase e r)))
-      (λ r. ap result (some_same (sym h ∙ phase-not-ready map _ _ phase e r)) ∙ not-ready e r))
-      (λ b e. ap result (some_same (sym h ∙ not-accepted map _ _ phase b e)) ∙ refused-result map x m b e)
+      (λ e. by_cases (is_ready phase) (λ r. absurd (none-some _ (sym (phase-ready map _ _ phase e r) ∙ h)))
+      (λ r. ap result (same_Some _ _ (sym h ∙ phase-not-ready map _ _ phase e r)) ∙ not-ready e r))
+      (λ b e. ap result (same_Some _ _ (sym h ∙ not-accepted map _ _ phase b e)) ∙ refused-result map x m b e)
     where
       result : Failure → Answered
       result b = record { machine = m; answer = Err b }

@@ -9,7 +9,7 @@ use Rattle.std.specs.Prelude.{Some, None}
 use lib.ListN.{length}
 use borrow.Author.Tests.{eqb-true, eq-eqb, ne_eqb}
 use Rattle.basics.proofs.Choice.{by-option, by_cases, and-three, and-false, if-true, if-false}
-use Rattle.basics.proofs.First.{some-not-none}
+use Rattle.std.proofs.lemmas.Option.{none-some}
 use Rattle.partitions.specs.Map.{Map, limit}
 use Rattle.constants.specs.Constants.{constant_count, valid_constants}
 use Rattle.model.specs.declared.Phase.{Phase}
@@ -83,8 +83,8 @@ module _ (map : Map) (sizes : Sizes) (k : List ℕ) where
     pub admitted : admission map sizes k phase ≡ None → (judgement map sizes k ≡ None) × (is_ready phase ≡ true)
     admitted h =
         by-option (judgement map sizes k)
-        (λ e. by_cases (is_ready phase) (λ r. (e, r)) (λ r. absurd (some-not-none (sym (phase-not-ready e r) ∙ h))))
-        (λ a e. absurd (some-not-none (sym (not-accepted a e) ∙ h)))
+        (λ e. by_cases (is_ready phase) (λ r. (e, r)) (λ r. absurd (none-some _ (sym h ∙ phase-not-ready e r))))
+        (λ a e. absurd (none-some _ (sym h ∙ not-accepted a e)))
 
 pub ruleset judgements = (wrong-length, cells-wrong, copy-wrong, constants-wrong, sizes-right, invalid-constants, accepted)
 

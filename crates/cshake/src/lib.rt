@@ -60,7 +60,7 @@ pub fn shake128(message: &[u8], out: &mut [u8])
 pub fn cshake128(name: &[u8], customization: &[u8], message: &[u8], out: &mut [u8])
     ensures { out.new ≡ c_shake128 message.now (length out.old) name.now customization.now }
 {
-    if name.is_empty() && customization.is_empty() {
+    if name.is_empty() & customization.is_empty() {
         return shake128(message, out);
     }
     let mut sponge = prefix(name, customization);

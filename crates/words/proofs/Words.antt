@@ -34,8 +34,10 @@ words_tail h = record { small = λ i. h.small (suc i) }
 
 pub words-take : (n : ℕ) {ws : List ℕ} → Words ws → Words (take n ws)
 words-take n {ws} h =
-    record { small = λ i. by_cases (ltb i n) (λ t. rw (get_or-take n ws i 0 (ltb-true _ _ t)) (h.small i))
-    (λ t. rw (past i (ltb-false _ _ t)) (omega arith)) }
+    record {
+      small = λ i. by_cases (ltb i n) (λ t. rw (get_or-take n ws i 0 (ltb-true _ _ t)) (h.small i))
+          (λ t. rw (past i (ltb-false _ _ t)) (omega arith));
+    }
   where
     past : (i : ℕ) → n ≤ i → get_or (take n ws) i 0 ≡ 0
     past i l = get_or-eq_default (take n ws) 0 {n = i} (simp length-take (omega arith))

@@ -32,7 +32,7 @@ loop-round_key-preserved c =
     let size : length left ≡ suc (length rest) = ap length split ∙ length_push rest key ∙ add-one (length rest) in
     let entry = c.loop-round_key.invariant.0 in
     let last : key ≡ round_key (key_after c.args.key (suc (length rest))) =
-      sym (ap (λ (xs : List ℕ). get_or xs (length rest) 0) split ∙ get_or_push rest key 0 (length rest) refl)
+    sym (ap (λ (xs : List ℕ). get_or xs (length rest) 0) split ∙ get_or_push rest key 0 (length rest) refl)
     ∙ entry (length rest) (omega arith) in (
       λ k h. sym (ap (λ (xs : List ℕ). get_or xs k 0) split ∙ get_or_append_left rest (key ∷ []) 0 k h) ∙ entry k (omega arith),
       held_next (subst (Held c.args.key c.args.block c.loop-round_key.state) size c.loop-round_key.invariant.1) c.inverse_round.ensures

@@ -12,8 +12,11 @@ returns-in-Some c =
     let p = c.args.part.now in
     let v = c.args.value.now in
     let refused = searched rule p v c.requires ∙ ap named (sym c.in-Some.ensures) in
-    record { answer = sym refused; words = sym (stored_refused rule p v 0 c.in-Some.i refused);
-    within = omega (arith, (refused-lowest rule v p 0 c.in-Some.i refused).to) }
+    record {
+      answer = sym refused;
+      words = sym (stored_refused rule p v 0 c.in-Some.i refused);
+      within = omega (arith, (refused-lowest rule v p 0 c.in-Some.i refused).to);
+    }
 
 pub returns : goal.returns
 returns c =
