@@ -8,6 +8,7 @@ use chip::Chip;
 use model::{Command, Outcome, Session};
 
 // Executes a command on what is lent, and gives the record and the answer back.
+// Kept (plainer): cells and copy stay parameters beside the chip, since their `&` or `&mut` says at each command what it may change.
 pub fn execute(
     chip: Chip<'_>,
     cells: &mut [u16],
