@@ -13,7 +13,7 @@ use Rattle.basics.proofs.Choice.{by_cases, if-true, if-false, by-option}
 use Rattle.words.specs.Words.{number_of}
 use Rattle.words.proofs.Parts.{part_slice}
 use Rattle.partitions.specs.declared.Partition.{Partition}
-use Rattle.partitions.specs.Map.{Map, number_at, partition_at, limit, first_word, word_count}
+use Rattle.partitions.specs.Map.{Map, partition_at, limit, first_word, word_count}
 use Rattle.partitions.specs.Fitness.{fit}
 use Rattle.partitions.proofs.Map.{inside, end-within}
 use Rattle.partitions.proofs.Granules.{granule-inside, granule-within}
@@ -22,7 +22,7 @@ use Rattle.model.specs.declared.Failure.TheVariants.{Denied}
 use Rattle.model.specs.Commands.{granule}
 use Rattle.model.specs.Lent.{Machine, sizes_of}
 use Rattle.direct_access.specs.declared.Place.{Place}
-use Rattle.direct_access.specs.Access.{reached}
+use Rattle.direct_access.specs.Access.{place_at, reached}
 use Rattle.chip.proofs.Judging.{accepts, admitted}
 use Rattle.chip.proofs.Acting.{admitting}
 
@@ -37,10 +37,6 @@ granule-slice ws p a at n e f l u =
     rw (s, e, f) (ap number_of (take_all 4 _ (omega (arith, whole)) ∙ sym (part_slice ws w (word_count p a) l)))
 
 module _ (map : Map) (m : Machine) (a : ℕ) where
-  -- the number and the partition of the address
-  abbrev place : Place
-  place = record { number = number_at map a; partition = partition_at map a }
-
   -- ---- what the code finds
 
   pub not-admitted : (f : Failure) → admitting map m ≡ Some f → reached map m a ≡ Err f
@@ -51,7 +47,7 @@ module _ (map : Map) (m : Machine) (a : ℕ) where
   unfolding reached
   past-map e h = rw (e, reached) (if-true _ _ (le-leb _ _ h))
 
-  pub in_map : admitting map m ≡ None → a < limit map → reached map m a ≡ Ok place
+  pub in_map : admitting map m ≡ None → a < limit map → reached map m a ≡ Ok (place_at map a)
   unfolding reached
   in_map e h = rw (e, reached) (if-false _ _ (lt-leb _ _ h))
 
@@ -61,7 +57,7 @@ module _ (map : Map) (m : Machine) (a : ℕ) where
   pub record Located (q : Place) : Type 0 where
     pub admitted-there : admitting map m ≡ None
     pub within : a < limit map
-    pub found : q ≡ place
+    pub found : q ≡ place_at map a
     pub cells-held : length m.lent.cells ≡ limit map / 2
     pub copy-held : length m.lent.copy ≡ limit map / 2
 
@@ -79,14 +75,14 @@ module _ (map : Map) (m : Machine) (a : ℕ) where
       record { admitted-there = e; within = h; found = cc; cells-held = t.cells_right; copy-held = t.copy-right })
 
   -- the granule lies in cells and copy, the data words in the cells
-  pub record Held (p : Partition) : Type 0 where
-    pub granule-in-cells : first_word p a + word_count p a ≤ length m.lent.cells
-    pub granule-in-copy : first_word p a + word_count p a ≤ length m.lent.copy
-    pub few : word_count p a ≤ 4
-    pub data-first : p.start / 2 ≤ p.digest / 2
-    pub data-in-cells : p.digest / 2 ≤ length m.lent.cells
+  pub record Held (q : Place) : Type 0 where
+    pub granule-in-cells : first_word q.partition q.address + word_count q.partition q.address ≤ length m.lent.cells
+    pub granule-in-copy : first_word q.partition q.address + word_count q.partition q.address ≤ length m.lent.copy
+    pub few : word_count q.partition q.address ≤ 4
+    pub data-first : q.partition.start / 2 ≤ q.partition.digest / 2
+    pub data-in-cells : q.partition.digest / 2 ≤ length m.lent.cells
 
-  pub held : fit map ≡ true → (q : Place) → reached map m a ≡ Ok q → Held q.partition
+  pub held : fit map ≡ true → (q : Place) → reached map m a ≡ Ok q → Held q
   unfolding partition_at
   held fits q r =
       let l = reached-at q r in

@@ -12,8 +12,7 @@ use Rattle.basics.proofs.Choice.{if-true, if-false, or_right, or-none}
 use Rattle.words.specs.declared.Rule.{Rule}
 use Rattle.words.specs.Programming.{program_answer, program_cells}
 use Rattle.words.proofs.Programming.{by_answer, stored_refused}
-use Rattle.partitions.specs.declared.Partition.{Partition}
-use Rattle.partitions.specs.Map.{Map, limit, number_at, partition_at}
+use Rattle.partitions.specs.Map.{Map, limit}
 use Rattle.model.specs.declared.Failure.{Failure}
 use Rattle.model.specs.Answers.{Answer}
 use Rattle.model.specs.declared.Failure.TheVariants.{Denied}
@@ -24,7 +23,7 @@ use Rattle.model.specs.Step.{Answered}
 use Rattle.chip.specs.Chip.{machine_of, result_of, result_for}
 use Rattle.chip.proofs.Acting.{admitting, comes_to, said, program-done, program-refused, refused, admitted-result}
 use Rattle.direct_access.specs.declared.Place.{Place}
-use Rattle.direct_access.specs.Access.{reached, programmed_answer}
+use Rattle.direct_access.specs.Access.{place_at, reached, programmed_answer}
 use Rattle.direct_access.proofs.Places.{by_place, not-admitted, past-map, in_map, reached-at, Located}
 use Rattle.direct_access.proofs.Decisions.{Decided}
 
@@ -47,13 +46,13 @@ programs m rule at ws value =
 
 -- ---- a command on an address
 
-module _ {map : Map} {x : Command} {m : Machine} {a : ℕ} {denies : ℕ → Partition → Bool} {go : Partition → Act} (d : Decided map x m a denies go) where
+module _ {map : Map} {x : Command} {m : Machine} {a : ℕ} {denies : Place → Bool} {go : Place → Act} (d : Decided map x m a denies go) where
   abbrev result : Answer → Answered
   result b = record { machine = m; answer = b }
 
   -- the act that is decided
   decided : {t : Act} → admitting map m ≡ None
-      → (when leb (limit map) a || denies (number_at map a) (partition_at map a) then refuse Denied else go (partition_at map a)) ≡ t
+      → (when leb (limit map) a || denies (place_at map a) then refuse Denied else go (place_at map a)) ≡ t
       → result_for map x m ≡ comes_to t m
   decided e f = admitted-result map x m d.acts e ∙ ap (λ (t : Act). comes_to t m) (d.decides ∙ f)
 
@@ -74,26 +73,26 @@ module _ {map : Map} {x : Command} {m : Machine} {a : ℕ} {denies : ℕ → Par
     place : Located map m a q
     place = reached-at map m a q r
 
-    there : {b : Bool} → denies q.number q.partition ≡ b → denies (number_at map a) (partition_at map a) ≡ b
-    there e = ap (λ (p : Place). denies p.number p.partition) (sym place.found) ∙ e
+    there : {b : Bool} → denies q ≡ b → denies (place_at map a) ≡ b
+    there e = ap denies (sym place.found) ∙ e
 
-    pub denied : denies q.number q.partition ≡ true → result (Err Denied) ≡ result_for map x m
+    pub denied : denies q ≡ true → result (Err Denied) ≡ result_for map x m
     denied e = sym (decided place.admitted-there (if-true _ _ (or_right (leb (limit map) a) _ (there e))) ∙ said-only m (Err Denied))
 
     -- it is not denied: the result is what its act comes to
-    pub arrived : denies q.number q.partition ≡ false → {t : Act} → go q.partition ≡ t → comes_to t m ≡ result_for map x m
+    pub arrived : denies q ≡ false → {t : Act} → go q ≡ t → comes_to t m ≡ result_for map x m
     arrived e f =
         sym (decided place.admitted-there (if-false _ _ (or-none (leb (limit map) a) _ (lt-leb _ _ place.within) (there e))
-        ∙ ap (λ (p : Place). go p.partition) (sym place.found) ∙ f))
+        ∙ ap go (sym place.found) ∙ f))
 
     -- it answers a value
-    pub answered : denies q.number q.partition ≡ false → {w : ℕ} → go q.partition ≡ say (Ok w) no_effect → {v : ℕ} → v ≡ w
+    pub answered : denies q ≡ false → {w : ℕ} → go q ≡ say (Ok w) no_effect → {v : ℕ} → v ≡ w
         → result (Ok v) ≡ result_for map x m
     answered e f g = rw g (sym (said-only m _) ∙ arrived e f)
 
     -- it programs words and answers a value; or a cell refuses
-    pub burnt : denies q.number q.partition ≡ false → {rule : Rule} {at : ℕ} {ws : List ℕ} {v : ℕ}
-        → go q.partition ≡ program rule at ws no_effect (say (Ok v) no_effect) → {cells : List ℕ} {b : Answer}
+    pub burnt : denies q ≡ false → {rule : Rule} {at : ℕ} {ws : List ℕ} {v : ℕ}
+        → go q ≡ program rule at ws no_effect (say (Ok v) no_effect) → {cells : List ℕ} {b : Answer}
         → cells ≡ program_cells rule m.lent.cells at ws → b ≡ programmed_answer (program_answer rule m.lent.cells at ws) v
         → result_of (with_cells cells m.lent) (record { session = m.session; answer = b }) ≡ result_for map x m
     burnt e {rule} {at} {ws} {v} f g h = rw (g, h) (sym (programs m rule at ws v) ∙ arrived e f)

@@ -12,12 +12,16 @@ use Rattle.chip.specs.Chip.{Executes}
 use Rattle.chip.specs.Judging.{admission}
 use Rattle.direct_access.specs.declared.Place.{Place}
 
+-- an address of the map, with the number of its partition, and the partition
+abbrev pub place_at : Map → ℕ → Place
+place_at map a = record { number = number_at map a; partition = partition_at map a; address = a }
+
 -- the place of an address: the command is refused before it, the address is past the map, or it has one
 unfoldable pub reached : Map → Machine → ℕ → Result Place Failure
 reached map m a =
     elim (admission map (sizes_of m.lent) m.lent.constants m.session.phase) [
       | Some failure ↦ Err failure
-      | None ↦ when leb (limit map) a then Err Denied else Ok (record { number = number_at map a; partition = partition_at map a })
+      | None ↦ when leb (limit map) a then Err Denied else Ok (place_at map a)
     ]
 
 -- a value where the words were programmed, 4 where a cell refused

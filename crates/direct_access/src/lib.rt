@@ -15,11 +15,12 @@ use model::{Answer, Failure, Outcome, Session};
 use partitions::Partition;
 use words::Rule;
 
-// The place of an address: the number of its partition, and the partition.
+// An address of the map, with the number of its partition, and the partition.
 #[derive(Clone, Copy)]
 struct Place {
     number: usize,
     partition: Partition,
+    address: usize,
 }
 
 // What every command on an address tests first, in the paper's order: what is lent, the phase, the address.
@@ -41,78 +42,83 @@ fn reach(
     Ok(Place {
         number,
         partition: chip.map.partition_of(number),
+        address,
     })
 }
 
-// No direct access, a hardware digest, or sensed locked.
-#[tactic(auto, unfolding(model::specs::Commands::write_denied))]
-fn write_denied(locked: bool, partition: Partition, address: usize) -> bool
-    ensures { result ≡ write_denied locked partition address }
-{
-    let rights = partition.rights();
-    let in_digest = partition.in_digest(address);
-    !rights.direct | (rights.hardware & in_digest) | locked
-}
-
-// No direct access; data that are read-locked, or of a secret that is sensed locked. A read lock counts where the kind has one.
-#[tactic(auto, unfolding(model::specs::Commands::read_denied))]
-fn read_denied(locked: bool, read_locked: bool, partition: Partition, address: usize) -> bool
-    ensures { result ≡ read_denied locked read_locked partition address }
-{
-    let rights = partition.rights();
-    let in_digest = partition.in_digest(address);
-    !rights.direct | (!in_digest & ((rights.lockable & read_locked) | (rights.scrambled & locked)))
-}
-
-// No front reads, or the digest.
-#[tactic(auto, unfolding(model::specs::Commands::front_read_denied))]
-fn front_read_denied(partition: Partition, address: usize) -> bool
-    ensures { result ≡ front_read_denied partition address }
-{
-    !partition.rights().front | partition.in_digest(address)
-}
-
-// No hardware digest, not the start of the partition, or sensed locked.
-#[tactic(auto, unfolding(model::specs::Commands::digest_denied))]
-fn digest_denied(locked: bool, partition: Partition, address: usize) -> bool
-    ensures { result ≡ digest_denied locked partition address }
-{
-    !partition.rights().hardware | (address != partition.start) | locked
-}
-
-// The granule of an address, which lies in the words.
-#[tactic(auto, using(crate::proofs::Places::granules))]
-fn granule(words: &[u16], partition: Partition, address: usize) -> u64
-    requires { (first_word partition address + word_count partition address ≤ length words.now) × (word_count partition address ≤ 4) }
-    ensures { result ≡ granule partition words.now address }
-{
-    let granule = partition.granule_at(address);
-    words::join(&words[granule.word..granule.word + granule.words])
-}
-
-// What a read answers: a digest plain, secret data unscrambled.
-#[tactic(auto, using(basics::proofs::Choice::choices), unfolding(model::specs::Commands::read_value))]
-fn read_value(chip: Chip<'_>, cells: &[u16], partition: Partition, address: usize) -> u64
-    requires { (first_word partition address + word_count partition address ≤ length cells.now) × (word_count partition address ≤ 4) }
-    ensures { result ≡ read_value primitives chip.entry.constants.now partition cells.now address }
-{
-    let stored = granule(cells, partition, address);
-    if partition.in_digest(address) {
-        stored
-    } else {
-        chip.unscrambled(partition, stored)
+impl Place {
+    // No direct access, a hardware digest, or sensed locked.
+    #[tactic(auto, unfolding(model::specs::Commands::write_denied))]
+    fn write_denied(self, locked: bool) -> bool
+        ensures { result ≡ write_denied locked self.partition self.address }
+    {
+        let rights = self.partition.rights();
+        let in_digest = self.partition.in_digest(self.address);
+        !rights.direct | (rights.hardware & in_digest) | locked
     }
-}
 
-// The rule of refusal for a write: the old one for data of a kind that keeps it, else the new one.
-#[tactic(auto, using(basics::proofs::Choice::choices), unfolding(model::specs::Commands::direct_rule))]
-fn rule_at(partition: Partition, address: usize) -> Rule
-    ensures { result ≡ direct_rule partition address }
-{
-    if partition.rights().additive & !partition.in_digest(address) {
-        Rule::KeepBits
-    } else {
-        Rule::BlankOnly
+    // No direct access; data that are read-locked, or of a secret that is sensed locked. A read lock counts where the kind has one.
+    #[tactic(auto, unfolding(model::specs::Commands::read_denied))]
+    fn read_denied(self, locked: bool, read_locked: bool) -> bool
+        ensures { result ≡ read_denied locked read_locked self.partition self.address }
+    {
+        let rights = self.partition.rights();
+        let in_digest = self.partition.in_digest(self.address);
+        !rights.direct | (!in_digest & ((rights.lockable & read_locked) | (rights.scrambled & locked)))
+    }
+
+    // No front reads, or the digest.
+    #[tactic(auto, unfolding(model::specs::Commands::front_read_denied))]
+    fn front_read_denied(self) -> bool
+        ensures { result ≡ front_read_denied self.partition self.address }
+    {
+        !self.partition.rights().front | self.partition.in_digest(self.address)
+    }
+
+    // No hardware digest, not the start of the partition, or sensed locked.
+    #[tactic(auto, unfolding(model::specs::Commands::digest_denied))]
+    fn digest_denied(self, locked: bool) -> bool
+        ensures { result ≡ digest_denied locked self.partition self.address }
+    {
+        !self.partition.rights().hardware | (self.address != self.partition.start) | locked
+    }
+
+    // The granule of the address, which lies in the words.
+    #[tactic(auto, using(crate::proofs::Places::granules))]
+    fn granule(self, words: &[u16]) -> u64
+        requires { (first_word self.partition self.address + word_count self.partition self.address ≤ length words.now)
+            × (word_count self.partition self.address ≤ 4) }
+        ensures { result ≡ granule self.partition words.now self.address }
+    {
+        let granule = self.partition.granule_at(self.address);
+        words::join(&words[granule.word..granule.word + granule.words])
+    }
+
+    // What a read answers: a digest plain, secret data unscrambled.
+    #[tactic(auto, using(basics::proofs::Choice::choices), unfolding(model::specs::Commands::read_value))]
+    fn read_value(self, chip: Chip<'_>, cells: &[u16]) -> u64
+        requires { (first_word self.partition self.address + word_count self.partition self.address ≤ length cells.now)
+            × (word_count self.partition self.address ≤ 4) }
+        ensures { result ≡ read_value primitives chip.entry.constants.now self.partition cells.now self.address }
+    {
+        let stored = self.granule(cells);
+        if self.partition.in_digest(self.address) {
+            stored
+        } else {
+            chip.unscrambled(self.partition, stored)
+        }
+    }
+
+    // The rule of refusal for a write: the old one for data of a kind that keeps it, else the new one.
+    #[tactic(auto, using(basics::proofs::Choice::choices), unfolding(model::specs::Commands::direct_rule))]
+    fn rule(self) -> Rule
+        ensures { result ≡ direct_rule self.partition self.address }
+    {
+        if self.partition.rights().additive & !self.partition.in_digest(self.address) {
+            Rule::KeepBits
+        } else {
+            Rule::BlankOnly
+        }
     }
 }
 
@@ -139,12 +145,13 @@ fn read_answer(
     let place = reach(chip, cells, copy, session, address)?;
     let locked = session.sensed_locked(place.number);
     let read_locked = session.read_locked(place.number);
-    if read_denied(locked, read_locked, place.partition, address) {
+    if place.read_denied(locked, read_locked) {
         return Err(Failure::Denied);
     }
-    Ok(read_value(chip, cells, place.partition, address))
+    Ok(place.read_value(chip, cells))
 }
 
+// Kept (fixed): cells and copy stay parameters of each command beside the chip: their `&` or `&mut`, which callers rely on, says what it may change.
 // Read: the granule of an address, in the cells.
 pub fn read(chip: Chip<'_>, cells: &[u16], copy: &[u16], session: Session, address: u32) -> Outcome
     ensures { Executes (map_of chip.entry.map) (Command.Read address) session (lent_of cells.now copy.now chip.entry.constants.now)
@@ -167,17 +174,12 @@ fn write_answer(
         (lent_of cells.new copy.now chip.entry.constants.now) result }
 {
     let place = reach(chip, &cells[..], copy, session, address)?;
-    if write_denied(
-        session.sensed_locked(place.number),
-        place.partition,
-        address,
-    ) {
+    if place.write_denied(session.sensed_locked(place.number)) {
         return Err(Failure::Denied);
     }
-    let granule = place.partition.granule_at(address);
+    let granule = place.partition.granule_at(place.address);
     let words = words::split(chip.scrambled(place.partition, value));
-    let rule = rule_at(place.partition, address);
-    programmed(rule, cells, granule.word, &words[..granule.words], 0)
+    programmed(place.rule(), cells, granule.word, &words[..granule.words], 0)
 }
 
 // Write: programs the granule of an address, if its words take the value by the rule of the place; a 4-byte granule uses the low half of the value.
@@ -208,10 +210,10 @@ fn front_read_answer(
         (lent_of cells.now copy.now chip.entry.constants.now) result }
 {
     let place = reach(chip, cells, copy, session, address)?;
-    if front_read_denied(place.partition, address) {
+    if place.front_read_denied() {
         return Err(Failure::Denied);
     }
-    Ok(granule(copy, place.partition, address))
+    Ok(place.granule(copy))
 }
 
 // Front read: the granule of an address in data of the kind HW_CFG, in the sensed copy.
@@ -241,11 +243,7 @@ fn digest_answer(
         (lent_of cells.new copy.now chip.entry.constants.now) result }
 {
     let place = reach(chip, &cells[..], copy, session, address)?;
-    if digest_denied(
-        session.sensed_locked(place.number),
-        place.partition,
-        address,
-    ) {
+    if place.digest_denied(session.sensed_locked(place.number)) {
         return Err(Failure::Denied);
     }
     let value = chip.computed_digest(&cells[..], place.partition);

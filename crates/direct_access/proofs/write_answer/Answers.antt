@@ -30,7 +30,7 @@ few t =
 
 lent-words : (t : After-split-words)
     → take t.granule_at-granule.result.words t.split-words.result
-    ≡ stored_form primitives t.args.chip.constants.now t.in_ok-place.place.partition t.args.address t.args.value
+    ≡ stored_form primitives t.args.chip.constants.now t.in_ok-place.place.partition t.in_ok-place.place.address t.args.value
 lent-words t =
     let h = held _ _ _ (maps-fit _) _ (sym t.reach.ensures ∙ t.in_ok-place.was) in
     rw (t.split-words.ensures, t.scrambled.ensures, t.granule_at-granule.ensures.1) (words_take _ 4 _ h.few)
@@ -57,5 +57,5 @@ pub returns : goal.returns
 returns c =
     let t = (goal.at.returns c).After-split-words in
     burnt (write-decided _ _ _ _) (at (goal.at.returns c).After-write_denied) (rw (← c.sensed_locked.ensures) (sym c.if-write_denied.ensures))
-    (sym (rw (c.rule_at-rule.ensures, c.granule_at-granule.ensures.0, lent-words t) refl))
+    (sym (rw (c.rule.ensures, c.granule_at-granule.ensures.0, lent-words t) refl))
     c.programmed.ensures.words c.programmed.ensures.answer
