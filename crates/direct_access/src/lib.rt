@@ -64,7 +64,8 @@ impl Place {
     {
         let rights = self.partition.rights();
         let in_digest = self.partition.in_digest(self.address);
-        !rights.direct | (!in_digest & ((rights.lockable & read_locked) | (rights.scrambled & locked)))
+        !rights.direct
+            | (!in_digest & ((rights.lockable & read_locked) | (rights.scrambled & locked)))
     }
 
     // No front reads, or the digest.
@@ -179,7 +180,8 @@ fn write_answer(
     }
     let granule = place.partition.granule_at(place.address);
     let words = words::split(chip.scrambled(place.partition, value));
-    programmed(place.rule(), cells, granule.word, &words[..granule.words], 0)
+    let rule = place.rule();
+    programmed(rule, cells, granule.word, &words[..granule.words], 0)
 }
 
 // Write: programs the granule of an address, if its words take the value by the rule of the place; a 4-byte granule uses the low half of the value.

@@ -57,5 +57,5 @@ pub returns : goal.returns
 returns c =
     let t = (goal.at.returns c).After-split-words in
     burnt (write-decided _ _ _ _) (at (goal.at.returns c).After-write_denied) (rw (← c.sensed_locked.ensures) (sym c.if-write_denied.ensures))
-    (sym (rw (c.rule.ensures, c.granule_at-granule.ensures.0, lent-words t) refl))
+    (sym (rw (c.rule-rule.ensures, c.granule_at-granule.ensures.0, lent-words t) refl))
     c.programmed.ensures.words c.programmed.ensures.answer
