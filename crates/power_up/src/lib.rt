@@ -19,26 +19,6 @@ use std::array;
 // The value for a life cycle that is not valid.
 const INVALID: u64 = 0xFFFF;
 
-// Whether a partition has no hardware digest, stores none yet, or stores the one computed.
-#[tactic(auto, using(crate::proofs::Checking::checks))]
-fn digest_holds(chip: Chip<'_>, cells: &[u16], partition: Partition) -> bool
-    ensures { partition.start / 2 ≤ partition.digest / 2 → partition.digest / 2 ≤ length cells.now
-        → result ≡ digest_holds primitives chip.entry.constants.now cells.now partition }
-{
-    let stored = chip::stored_digest(cells, partition);
-    !partition.rights().hardware || stored == 0 || stored == chip.computed_digest(cells, partition)
-}
-
-// The first partition whose digest check fails.
-// Kept (plainer): that the cells have as many words as the map is asked by five private functions; a struct of chip and cells with that fact as its invariant
-// would name it once and say no less at each of them.
-fn first_failing(chip: Chip<'_>, cells: &[u16]) -> Option<usize>
-    requires { length cells.now ≡ limit (map_of chip.map) / 2 }
-    ensures { result ≡ first_failing primitives (map_of chip.entry.map) chip.entry.constants.now cells.now }
-{
-    (0..chip.map.count()).find(|number| !digest_holds(chip, cells, chip.map.partition_of(*number)))
-}
-
 // The stored digest of a partition that has one, else 0.
 #[tactic(auto, using(crate::proofs::Checking::stored))]
 fn sensed_digest(cells: &[u16], partition: Partition) -> u64
@@ -51,15 +31,8 @@ fn sensed_digest(cells: &[u16], partition: Partition) -> u64
     }
 }
 
-// The stored digests by the partitions' numbers.
-#[tactic(auto, unfolding(model::specs::PowerUp::digests, basics::specs::Range::listed))]
-fn stored_digests(chip: Chip<'_>, cells: &[u16]) -> [u64; ENTRIES]
-    ensures { result ≡ digests cells.now (map_of chip.entry.map) }
-{
-    array::from_fn(|number| sensed_digest(cells, chip.map.partition_of(number)))
-}
-
 // What the copy holds for the four words from `at` on. They lie in one partition, all in its data or all in its digest.
+// Kept (proof): tried as a method of `Stored`: open that the words of a slice in a field fit 16 bits, which `type_inv` says of a parameter alone.
 fn sensed_block(chip: Chip<'_>, cells: &[u16], at: usize) -> [u16; 4]
     requires { (at % 4 ≡ 0) × (at < limit (map_of chip.map) / 2) }
     ensures { result ≡ listed (copy_word primitives (map_of chip.entry.map) chip.entry.constants.now cells.now) at 4 }
@@ -74,18 +47,6 @@ fn sensed_block(chip: Chip<'_>, cells: &[u16], at: usize) -> [u16; 4]
         return words::split(block);
     }
     words::split(chip.unscrambled(partition, block))
-}
-
-// Latches the copy, block by block.
-fn latch(chip: Chip<'_>, cells: &[u16], copy: &mut [u16])
-    requires { (length cells.now ≡ limit (map_of chip.map) / 2) × (length copy.old ≡ limit (map_of chip.map) / 2) }
-    ensures { copy.new ≡ listed (copy_word primitives (map_of chip.entry.map) chip.entry.constants.now cells.now) 0 (limit (map_of chip.entry.map) / 2) }
-{
-    // Kept (proof): once the borrows of `chunks_exact_mut(4)` are over, a proof knows the length of the copy and not its words.
-    for number in 0..copy.len() / 4 {
-        let at = 4 * number;
-        copy[at..at + 4].copy_from_slice(&sensed_block(chip, cells, at));
-    }
 }
 
 // Sets the copy to all zero.
@@ -115,50 +76,98 @@ fn value_of(life_cycle: LifeCycle) -> u64
     256 * u64::from(life_cycle.count) + u64::from(life_cycle.state)
 }
 
-// A power-up that succeeds: copy and session are sensed from the cells.
-fn ready(chip: Chip<'_>, cells: &[u16], copy: &mut [u16], life_cycle: LifeCycle) -> Outcome
-    requires { (length cells.now ≡ limit (map_of chip.map) / 2) × (length copy.old ≡ limit (map_of chip.map) / 2) }
-    ensures { result_of (lent_of cells.now copy.new chip.entry.constants.now) result
-        ≡ powered_result (map_of chip.entry.map) (λ l. succeeds life_cycle.state life_cycle.count)
-        (lent_of cells.now copy.old chip.entry.constants.now) }
-{
-    latch(chip, cells, copy);
-    let sensed = stored_digests(chip, cells);
-    Outcome {
-        session: Session::unlocked(Phase::Ready, sensed, life_cycle.state, life_cycle.count),
-        answer: Ok(value_of(life_cycle)),
-    }
+// A chip with cells that have as many words as its map.
+#[derive(Clone, Copy)]
+struct Stored<'a> {
+    chip: Chip<'a>,
+    cells: &'a [u16],
+    ghost whole: { length cells.now ≡ limit (map_of chip.map) / 2 },
 }
 
-// The life cycle that the last words of the cells stand for.
-fn life_cycle_in(chip: Chip<'_>, cells: &[u16]) -> Option<LifeCycle>
-    requires { length cells.now ≡ limit (map_of chip.map) / 2 }
-    ensures { (copy : List ℕ) → result ≡ life_cycle_in (map_of chip.entry.map) (lent_of cells.now copy chip.entry.constants.now) }
-{
-    let counter = chip.counter_at();
-    let state = chip.state_at();
-    life_cycle::decode(chip.constants, &cells[counter..state], &cells[state..])
-}
-
-// How a power-up ends: with the life cycle of the cells, or dead for a reason, with what is answered. The digest checks come first, then the life cycle
-// decides.
-#[tactic(auto, using(crate::proofs::PowerUpEnd::ends))]
-fn checked(chip: Chip<'_>, cells: &[u16]) -> Result<LifeCycle, (Reason, Failure)>
-    requires { length cells.now ≡ limit (map_of chip.map) / 2 }
-    ensures { (copy : List ℕ) → result ≡ ended_as (power_up_end primitives (map_of chip.entry.map) (lent_of cells.now copy chip.entry.constants.now)) }
-{
-    if let Some(number) = first_failing(chip, cells) {
-        return Err((Reason::DigestFailed, Failure::DigestFailed(number)));
+impl Stored<'_> {
+    // Whether a partition has no hardware digest, stores none yet, or stores the one computed.
+    #[tactic(auto, using(crate::proofs::Checking::checks))]
+    fn digest_holds(self, partition: Partition) -> bool
+        ensures { partition.start / 2 ≤ partition.digest / 2 → partition.digest / 2 ≤ length self.entry.cells.now
+            → result ≡ digest_holds primitives self.entry.chip.constants.now self.entry.cells.now partition }
+    {
+        let stored = chip::stored_digest(self.cells, partition);
+        !partition.rights().hardware || stored == 0 || stored == self.chip.computed_digest(self.cells, partition)
     }
-    match life_cycle_in(chip, cells) {
-        None => Err((Reason::LifeCycleFailed, Failure::LifeCycleFailed(INVALID))),
-        Some(life_cycle) if life_cycle.state == SCRAP => {
-            Err((
-                Reason::LifeCycleFailed,
-                Failure::LifeCycleFailed(value_of(life_cycle)),
-            ))
+
+    // The first partition whose digest check fails.
+    fn first_failing(self) -> Option<usize>
+        ensures { result ≡ first_failing primitives (map_of self.entry.chip.map) self.entry.chip.constants.now self.entry.cells.now }
+    {
+        (0..self.chip.map.count()).find(|number| !self.digest_holds(self.chip.map.partition_of(*number)))
+    }
+
+    // Latches the copy, block by block.
+    fn latch(self, copy: &mut [u16])
+        requires { length copy.old ≡ limit (map_of self.chip.map) / 2 }
+        ensures { copy.new ≡ listed (copy_word primitives (map_of self.entry.chip.map) self.entry.chip.constants.now self.entry.cells.now) 0
+            (limit (map_of self.entry.chip.map) / 2) }
+    {
+        // Kept (proof): once the borrows of `chunks_exact_mut(4)` are over, a proof knows the length of the copy and not its words.
+        for number in 0..copy.len() / 4 {
+            let at = 4 * number;
+            copy[at..at + 4].copy_from_slice(&sensed_block(self.chip, self.cells, at));
         }
-        Some(life_cycle) => Ok(life_cycle),
+    }
+
+    // The stored digests by the partitions' numbers.
+    #[tactic(auto, unfolding(model::specs::PowerUp::digests, basics::specs::Range::listed))]
+    fn stored_digests(self) -> [u64; ENTRIES]
+        ensures { result ≡ digests self.entry.cells.now (map_of self.entry.chip.map) }
+    {
+        array::from_fn(|number| sensed_digest(self.cells, self.chip.map.partition_of(number)))
+    }
+
+    // A power-up that succeeds: copy and session are sensed from the cells.
+    fn ready(self, copy: &mut [u16], life_cycle: LifeCycle) -> Outcome
+        requires { length copy.old ≡ limit (map_of self.chip.map) / 2 }
+        ensures { result_of (lent_of self.entry.cells.now copy.new self.entry.chip.constants.now) result
+            ≡ powered_result (map_of self.entry.chip.map) (λ l. succeeds life_cycle.state life_cycle.count)
+            (lent_of self.entry.cells.now copy.old self.entry.chip.constants.now) }
+    {
+        self.latch(copy);
+        let sensed = self.stored_digests();
+        Outcome {
+            session: Session::unlocked(Phase::Ready, sensed, life_cycle.state, life_cycle.count),
+            answer: Ok(value_of(life_cycle)),
+        }
+    }
+
+    // The life cycle that the last words of the cells stand for.
+    fn life_cycle_in(self) -> Option<LifeCycle>
+        ensures { (copy : List ℕ) → result
+            ≡ life_cycle_in (map_of self.entry.chip.map) (lent_of self.entry.cells.now copy self.entry.chip.constants.now) }
+    {
+        let counter = self.chip.counter_at();
+        let state = self.chip.state_at();
+        life_cycle::decode(self.chip.constants, &self.cells[counter..state], &self.cells[state..])
+    }
+
+    // How a power-up ends: with the life cycle of the cells, or dead for a reason, with what is answered. The digest checks come first, then the life cycle
+    // decides.
+    #[tactic(auto, using(crate::proofs::PowerUpEnd::ends))]
+    fn checked(self) -> Result<LifeCycle, (Reason, Failure)>
+        ensures { (copy : List ℕ) → result
+            ≡ ended_as (power_up_end primitives (map_of self.entry.chip.map) (lent_of self.entry.cells.now copy self.entry.chip.constants.now)) }
+    {
+        if let Some(number) = self.first_failing() {
+            return Err((Reason::DigestFailed, Failure::DigestFailed(number)));
+        }
+        match self.life_cycle_in() {
+            None => Err((Reason::LifeCycleFailed, Failure::LifeCycleFailed(INVALID))),
+            Some(life_cycle) if life_cycle.state == SCRAP => {
+                Err((
+                    Reason::LifeCycleFailed,
+                    Failure::LifeCycleFailed(value_of(life_cycle)),
+                ))
+            }
+            Some(life_cycle) => Ok(life_cycle),
+        }
     }
 }
 
@@ -173,8 +182,9 @@ pub fn power_up(chip: Chip<'_>, cells: &[u16], copy: &mut [u16], session: Sessio
             answer: Err(failure),
         };
     }
-    match checked(chip, cells) {
-        Ok(life_cycle) => ready(chip, cells, copy, life_cycle),
+    let stored = Stored { chip, cells };
+    match stored.checked() {
+        Ok(life_cycle) => stored.ready(copy, life_cycle),
         Err((reason, failure)) => dead(copy, reason, failure),
     }
 }

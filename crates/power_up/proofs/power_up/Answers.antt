@@ -19,11 +19,11 @@ returns-in-Err c =
     let a = c.args in
     refused-result _ PowerUp (machine_of (lent_of a.cells.now a.copy.now a.chip.constants.now) a.session) _ (sym (rw c.sizes_of.ensures at c.in-Err.ensures))
 
-pub checked-requires : goal.checked-requires
-checked-requires c = (accepts _ _ _ (accepted (goal.at.checked-requires c).In_default)).cells_right
+pub invariant_of-stored : goal.invariant_of-stored
+invariant_of-stored c = record { whole = (accepts _ _ _ (accepted (goal.at.invariant_of-stored c).In_default)).cells_right }
 
 pub ready-requires : goal.ready-requires
-ready-requires c = let r = accepts _ _ _ (accepted (goal.at.ready-requires c).In_default) in (r.cells_right, r.copy-right)
+ready-requires c = (accepts _ _ _ (accepted (goal.at.ready-requires c).In_default)).copy-right
 
 pub returns-in-Ok : goal.returns-in-Ok
 returns-in-Ok c =

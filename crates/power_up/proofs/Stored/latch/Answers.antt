@@ -7,7 +7,7 @@ use Rattle.partitions.specs.Maps.{map_of}
 use Rattle.partitions.proofs.Maps.{maps-fit}
 use Rattle.chip.proofs.LifeCyclePlace.{words-in-blocks}
 use Rattle.power_up.proofs.Sensing.{latched-none, latched-more, latched-all}
-use Rattle.power_up.proofs.latch.Goals as goal
+use Rattle.power_up.proofs.Stored.latch.Goals as goal
 
 pub loop-number-init : goal.loop-number-init
 loop-number-init c = latched-none _ _
@@ -18,5 +18,5 @@ loop-number-preserved c =
 
 pub returns : goal.returns
 returns c =
-    let n : 4 * c.loop-number.number ≡ limit (map_of c.args.chip.map) / 2 = omega (arith, c.requires.1, words-in-blocks _ (maps-fit c.args.chip.map)) in
-    rw n at (latched-all _ c.loop-number.copy _ c.loop-number.invariant (omega (arith, c.requires.1)))
+    let n : 4 * c.loop-number.number ≡ limit (map_of c.args.self.chip.map) / 2 = omega (arith, c.requires, words-in-blocks _ (maps-fit c.args.self.chip.map)) in
+    rw n at (latched-all _ c.loop-number.copy _ c.loop-number.invariant (omega (arith, c.requires)))

@@ -4,7 +4,7 @@ use Rattle.partitions.specs.Maps.{map_of}
 use Rattle.model.specs.PowerUp.{copy_word}
 use Rattle.chip.specs.Chip.{primitives}
 use Rattle.power_up.proofs.Sensing.{Latched}
-use Rattle.power_up.proofs.latch.Given as goal
+use Rattle.power_up.proofs.Stored.latch.Given as goal
 
 abbrev pub invariant-loop-number : goal.invariant-loop-number
-invariant-loop-number l = Latched (copy_word primitives (map_of l.chip.map) l.chip.constants.now l.cells) l.copy (4 * l.number)
+invariant-loop-number l = Latched (copy_word primitives (map_of l.self.chip.map) l.self.chip.constants.now l.self.cells.now) l.copy (4 * l.number)
