@@ -9,6 +9,7 @@ use std::io::Write;
 const SPACE: usize = 4600;
 
 // The lines that wait stand at the start of the bytes.
+// Kept (fixed): a buffer and its length, inside of this type alone: there is no heap, which the library's `BufWriter` takes its buffer from.
 #[derive(Drop)]
 pub(crate) struct Lines {
     bytes: [u8; SPACE],

@@ -6,6 +6,7 @@ ghost use Rattle.frames.specs.Bytes.{numbers_at, all_bytes};
 use std::array;
 
 // The number of the two bytes from `at` on.
+// Kept (plainer): this and the next differ in the number's type, and one function of both would need a trait for `from_le_bytes`.
 #[tactic(auto, using(script::proofs::Numbers::numbers))]
 pub(crate) fn two_at(frame: &[u8; 5120], at: usize) -> u16
     requires { at + 2 ≤ 5120 }

@@ -20,7 +20,7 @@ pub(crate) fn map_in(frame: &[u8; 5120]) -> MapName
 }
 
 // The phase of a number.
-// Kept (plainer): a `From` would stand in `model`, beside the type, and `model` knows no frame.
+// Kept (plainer): as `writing::phase_number`.
 #[tactic(auto, using(basics::proofs::Choice::choices), unfolding(crate::specs::Frames::phase_of))]
 fn phase_of(number: u8) -> Phase
     ensures { result ≡ phase_of number }

@@ -3,10 +3,10 @@ ghost use Rattle.std.specs.Prelude.{◌≡◌, ◌≤◌, length};
 ghost use Rattle.frames.specs.Frames.{phase_number, with_session, with_answer, with_memory};
 
 use crate::numbers;
-use model::{Phase, Reason, Session};
+use model::{Phase, Session};
 
 // The number of a phase; that of a dead one is its reason's.
-// Kept (plainer): as `reading::phase_of`.
+// Kept (plainer): a `From` would stand in `model`, beside the type, and `model` knows no frame.
 #[tactic(auto, unfolding(crate::specs::Frames::phase_number))]
 fn phase_number(phase: Phase) -> u8
     ensures { result ≡ phase_number phase }
@@ -15,9 +15,7 @@ fn phase_number(phase: Phase) -> u8
         Phase::Off => 0,
         Phase::Ready => 1,
         Phase::Inert => 2,
-        Phase::Dead(Reason::BitCleared) => 4,
-        Phase::Dead(Reason::DigestFailed) => 6,
-        Phase::Dead(Reason::LifeCycleFailed) => 7,
+        Phase::Dead(reason) => reason as u8,
     }
 }
 

@@ -109,6 +109,7 @@ pub fn state_words(constants: &[u16], state: u8) -> [u16; 20]
 }
 
 // The stroke count whose counter words these are.
+// Kept (plainer): one function over the encoding would ask a clause of its closure, where each of these two is one line.
 fn count_of(constants: &[u16], counter: &[u16]) -> Option<u8>
     ensures { result ≡ encoded_by (counter_words constants.now) counter.now 0 25 }
 {

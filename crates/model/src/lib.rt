@@ -5,12 +5,12 @@ ghost use Rattle.std.specs.Prelude.{◌≡◌};
 ghost use Rattle.model.specs.Session.{fresh_session, unlocked, in_phase, with_lock, sensed_at, sensed_locked, read_locked};
 ghost use Rattle.model.specs.Answers.{code_of, value_of};
 
-// Why a phase is dead: a programmed bit would have been cleared (4), a digest check failed (6), the life cycle is not usable (7).
+// Why a phase is dead, each with its number: a programmed bit would have been cleared, a digest check failed, the life cycle is not usable.
 #[derive(Clone, Copy, PartialEq, Eq, Debug)]
 pub enum Reason {
-    BitCleared,
-    DigestFailed,
-    LifeCycleFailed,
+    BitCleared = 4,
+    DigestFailed = 6,
+    LifeCycleFailed = 7,
 }
 
 // The phase of a session; a dead one carries its reason.
@@ -26,6 +26,7 @@ pub enum Phase {
 pub const ENTRIES: usize = 10;
 
 // The session record: phase, sensed digests, read locks, life cycle state and stroke count.
+// Kept (fixed): two arrays by a partition's number, since the definitions speak of the digests and of the locks as two lists.
 #[derive(Clone, Copy, PartialEq, Eq, Debug)]
 pub struct Session {
     pub phase: Phase,

@@ -3,6 +3,7 @@
 #![tactic(auto)]
 
 // The partition that a type stands for, by the type's constants.
+// Kept (proof): no provided constant of a trait over these types, which a static can't take (unsupported-constant-expression).
 macro_rules! partition {
     ($part:ident) => {
         Partition {
@@ -230,6 +231,7 @@ impl MapName {
     }
 
     // The number of the partition that holds a byte address, or the count where none does.
+    // Kept (fixed): no `Option` here and at the two below, whose definitions (`number_at`, `partition`, `number_of_kind`) name the count and nowhere.
     #[tactic(auto, unfolding(crate::specs::Maps::map_of))]
     pub fn number_at(self, address: usize) -> usize
         ensures { result ≡ number_at (map_of self) address }

@@ -44,6 +44,7 @@ pub enum Reading {
 
 impl Refusal {
     // The code of a refusal.
+    // Kept (fixed): a public function, which docs/ name, and no `From` in its place.
     pub fn code(self) -> u8
         ensures { result ≡ refusal_code self }
     {
@@ -152,6 +153,7 @@ fn command_at(script: &[u8], kind: RecordKind, at: usize) -> Command
 }
 
 // The command of the record at a place, and the place after it.
+// Kept (fixed): this and the two below take script and place, since the paper has `Reader` thin over functions of slice and cursor.
 #[tactic(auto, using(crate::proofs::Records::inside_tests))]
 fn record_at(script: &[u8], place: usize) -> Result<(Command, usize), Refusal>
     requires short { length script.now ≤ LONGEST }
@@ -280,6 +282,7 @@ fn decimal_length(x: u64) -> usize
 }
 
 // The end line, with space for the longest: zeros behind its bytes.
+// Kept (fixed): a buffer and its length, inside of this type alone: there is no heap.
 #[derive(Clone, Copy)]
 pub struct EndLine {
     bytes: [u8; 25],

@@ -124,6 +124,7 @@ pub fn file_words(bytes: &[u8], words: &mut [u16]) -> usize
     if !rest.is_empty() || words.len() < pairs.len() {
         return 0;
     }
+    // Kept (proof): after a loop over `words.iter_mut().zip(pairs)` a proof knows no element.
     for (i, pair) in pairs.iter().enumerate() {
         words[i] = u16::from_le_bytes(*pair);
     }
