@@ -92,14 +92,18 @@ impl Stored<'_> {
             → result ≡ digest_holds primitives self.entry.chip.constants.now self.entry.cells.now partition }
     {
         let stored = chip::stored_digest(self.cells, partition);
-        !partition.rights().hardware || stored == 0 || stored == self.chip.computed_digest(self.cells, partition)
+        !partition.rights().hardware
+            || stored == 0
+            || stored == self.chip.computed_digest(self.cells, partition)
     }
 
     // The first partition whose digest check fails.
     fn first_failing(self) -> Option<usize>
         ensures { result ≡ first_failing primitives (map_of self.entry.chip.map) self.entry.chip.constants.now self.entry.cells.now }
     {
-        (0..self.chip.map.count()).find(|number| !self.digest_holds(self.chip.map.partition_of(*number)))
+        (0..self.chip.map.count()).find(|number| !self.digest_holds(
+            self.chip.map.partition_of(*number),
+        ))
     }
 
     // Latches the copy, block by block.
@@ -145,7 +149,11 @@ impl Stored<'_> {
     {
         let counter = self.chip.counter_at();
         let state = self.chip.state_at();
-        life_cycle::decode(self.chip.constants, &self.cells[counter..state], &self.cells[state..])
+        life_cycle::decode(
+            self.chip.constants,
+            &self.cells[counter..state],
+            &self.cells[state..],
+        )
     }
 
     // How a power-up ends: with the life cycle of the cells, or dead for a reason, with what is answered. The digest checks come first, then the life cycle
