@@ -1,4 +1,5 @@
 // What is read from a reader or a file, in the buffer that is lent for it.
+ghost use Rattle.std.specs.Prelude.{◌≤◌, length};
 ghost use Rattle.std.specs.Io.KnownBytes.{Consumes};
 
 use std::fs;
@@ -7,7 +8,8 @@ use std::rt::Files;
 
 // Reads until the bytes are full, the input ends or a read fails, and gives what was read.
 pub(crate) fn read_full<'a, R: Read>(reader: &mut R, bytes: &'a mut [u8]) -> &'a [u8]
-    ensures { Consumes (R.remaining reader.old) (R.remaining reader.new) result.now }
+    ensures fits { length result.now ≤ length bytes.old }
+    ensures reads { Consumes (R.remaining reader.old) (R.remaining reader.new) result.now }
 {
     // Kept (fixed): no heap; the library reads to an end into a `Vec` alone.
     let mut done = 0;
@@ -21,7 +23,9 @@ pub(crate) fn read_full<'a, R: Read>(reader: &mut R, bytes: &'a mut [u8]) -> &'a
 }
 
 // Reads the start of a file; a missing one counts as empty.
-pub(crate) fn read_file<'a, R: Files>(rt: &R, path: &str, bytes: &'a mut [u8]) -> &'a [u8] {
+pub(crate) fn read_file<'a, R: Files>(rt: &R, path: &str, bytes: &'a mut [u8]) -> &'a [u8]
+    ensures { length result.now ≤ length bytes.old }
+{
     match fs::open(rt, path) {
         Ok(mut file) => read_full(&mut file, bytes),
         Err(_) => &[],
@@ -29,7 +33,9 @@ pub(crate) fn read_file<'a, R: Files>(rt: &R, path: &str, bytes: &'a mut [u8]) -
 }
 
 // Fills words from bytes, and gives those that they are. A file with more words than fit is too long in any case.
-pub(crate) fn words_of<'a>(bytes: &[u8], words: &'a mut [u16]) -> &'a mut [u16] {
+pub(crate) fn words_of<'a>(bytes: &[u8], words: &'a mut [u16]) -> &'a mut [u16]
+    ensures { length result.now ≤ length words.old }
+{
     let count = transcript::file_words(bytes, words);
     &mut words[..count]
 }
