@@ -1,13 +1,12 @@
--- The suffix is taken as a byte, and the last bit added to the end of its block.
-use Rattle.std.proofs.Common.{ap, ◌∙◌}
-use Rattle.keccak.specs.Permutation.{keccak_f}
+-- The suffix is taken as a byte, after a full block is permuted, and the last bit is added to the end of its block.
+use Rattle.std.proofs.Common.{ℕ, List, refl, ap, ◌∙◌}
 use Rattle.sponge.specs.declared.Sponge.{Sponge}
-use Rattle.sponge.specs.Streaming.{with_byte, taken, finished}
+use Rattle.sponge.specs.Streaming.{taken}
+use Rattle.sponge.proofs.Permuting.{finished-steps}
 use Rattle.sponge.proofs.Sponge.finish.Goals as goal
 
 pub returns : goal.returns
-unfolding taken finished
+unfolding taken
 returns c =
-    c.permuted.ensures
-    ∙ ap (λ (s : Sponge). keccak_f s.lanes) c.add_byte.ensures
-    ∙ ap (λ (s : Sponge). keccak_f (with_byte s.lanes 167 0x80)) c.take.ensures
+    let lanes : Sponge → List ℕ = λ s. s.lanes in
+    c.permuted.ensures ∙ finished-steps c.args.self c.args.suffix refl (ap lanes c.take.ensures) (ap lanes c.add_byte.ensures)
