@@ -23,8 +23,9 @@ struct Place {
     address: usize,
 }
 
-// What every command on an address tests first, in the paper's order: what is lent, the phase, the address.
+// What every command on an address tests first, in the paper's order: what is lent, the phase, the address. Inlined, for speed.
 #[tactic(auto, using(crate::proofs::Places::places), unfolding(partitions::specs::Map::partition_at))]
+#[inline(always)]
 fn reach(
     chip: Chip<'_>,
     cells: &[u16],

@@ -41,6 +41,15 @@ fn program(rule: Rule, cells: &mut [u16], at: usize, value: &[u16]) -> u64 {
     }
 }
 
+// Words as data.
+fn data_of(words: &[u16; 48]) -> [u8; 96] {
+    let mut data = [0; 96];
+    for (place, word) in data.chunks_exact_mut(2).zip(words) {
+        place.copy_from_slice(&word.to_le_bytes());
+    }
+    data
+}
+
 // Up to 48 cells at the start of the data are programmed with the words behind them.
 pub(crate) fn programmed(case: Case<'_>) -> Answer {
     let words = words_of(case);
@@ -49,9 +58,10 @@ pub(crate) fn programmed(case: Case<'_>) -> Answer {
     let mut cells = [0; 48];
     cells[..count].copy_from_slice(&words[..count]);
     let result = program(rule_of(case.b), &mut cells[..count], case.a as usize, value);
-    let mut data = [0; 96];
-    data.copy_from_slice(cells.map(u16::to_le_bytes).as_flattened());
-    Answer { result, data }
+    Answer {
+        result,
+        data: data_of(&cells),
+    }
 }
 
 pub(crate) fn split(x: u64) -> Answer {

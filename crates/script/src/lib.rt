@@ -169,8 +169,9 @@ fn record_at(script: &[u8], place: usize) -> Result<(Command, usize), Refusal>
     Ok((command_at(script, kind, place + 1), next))
 }
 
-// What stands at a place of a script.
+// What stands at a place of a script. Inlined with `Reader::next`: a rehearsal of reads takes a fifth longer where a reading is handed back in memory.
 #[tactic(auto, using(crate::proofs::Records::outside))]
+#[inline(always)]
 fn next_at(script: &[u8], place: usize) -> Reading
     ensures { result ≡ next_at script.now place }
 {
@@ -206,6 +207,7 @@ pub struct Reader<'a> {
 
 impl<'a> Reader<'a> {
     // What stands at its place.
+    #[inline(always)]
     pub fn next(self) -> Reading
         ensures { result ≡ reader_next self.entry }
     {
