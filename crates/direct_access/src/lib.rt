@@ -23,7 +23,8 @@ struct Place {
     address: usize,
 }
 
-// What every command on an address tests first, in the paper's order: what is lent, the phase, the address. Inlined, for speed.
+// What every command on an address tests first, in the paper's order: what is lent, the phase, the address.
+// Inlined, so that no place is handed back in memory.
 #[tactic(auto, using(crate::proofs::Places::places), unfolding(partitions::specs::Map::partition_at))]
 #[inline(always)]
 fn reach(

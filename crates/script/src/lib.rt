@@ -169,7 +169,7 @@ fn record_at(script: &[u8], place: usize) -> Result<(Command, usize), Refusal>
     Ok((command_at(script, kind, place + 1), next))
 }
 
-// What stands at a place of a script. Inlined with `Reader::next`: a rehearsal of reads takes a fifth longer where a reading is handed back in memory.
+// What stands at a place of a script. Inlined, as `Reader::next` is, so that no reading is handed back in memory.
 #[tactic(auto, using(crate::proofs::Records::outside))]
 #[inline(always)]
 fn next_at(script: &[u8], place: usize) -> Reading
